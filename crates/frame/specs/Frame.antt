@@ -1,0 +1,89 @@
+-- Frames, read and written (document 01, "The frame" and refusals 2 to 7).
+use Prim.Native.Nat.{ℕ, _+_, _-_, _≤_}
+use mathlib.Core.Path.{_≡_}
+use mathlib.Core.Bool.{Bool, cond, _||_}
+use mathlib.Core.List.{List, [], _∷_, _++_}
+use lib.ListN.{length, getD, take, drop}
+use lib.Dec.{ltb, eqb}
+use Rattle.text.specs.Scan.{until, before}
+use Rattle.text.specs.Whole.{readWhole, shortest}
+use Rattle.text.specs.declared.whole.Whole.{Whole}
+use Rattle.text.specs.declared.whole.Whole.the-variants.{Value, Malformed}
+use Rattle.frame.specs.Checksum.{lrcOf}
+
+-- what the frame reader hands back
+pub record Reading : Type 0 where
+  pub number : ℕ
+  pub station : ℕ
+  pub body : List ℕ
+
+-- the reader's three answers are those of a reading
+pub record Read (o : Reading) (number station : ℕ) (body : List ℕ) : Type 0 where
+  pub number-is : number ≡ o .number
+  pub station-is : station ≡ o .station
+  pub body-is : body ≡ o .body
+
+-- a refusal hands back station 0 and an empty part
+abbrev pub refused : ℕ → Reading
+refused n = record { number = n; station = 0; body = [] }
+
+-- the bytes from index a up to, not including, index e
+abbrev pub between : ℕ → ℕ → List ℕ → List ℕ
+between a e s = take (e - a) (drop a s)
+
+-- a byte outside 20h..7Eh
+abbrev pub isStray : ℕ → Bool
+isStray b = ltb b 32 || ltb 126 b
+
+-- the index of the first such byte; the length where there is none
+abbrev pub stray : List ℕ → ℕ
+stray = until isStray
+
+-- a number from 1 to 99, or 0
+abbrev pub upTo99 : Whole → ℕ
+upTo99 (Value v) = cond (ltb 99 v) 0 v
+upTo99 Malformed = 0
+
+-- the station that a text is: decimal, 1 to 99, with no leading zero; 0 where it is none
+unfoldable pub stationOf : List ℕ → ℕ
+stationOf t = cond (eqb (getD t 0 0) 48) 0 (upTo99 (readWhole t))
+
+-- the station was read: 0 is none
+abbrev pub withStation : ℕ → List ℕ → Reading
+withStation v body = cond (eqb v 0) (refused 7) (record { number = 0; station = v; body = body })
+
+-- between STX and ETX: 6 STRAY, 7 STATION
+unfoldable pub readInner : List ℕ → Reading
+readInner t =
+    cond (ltb (stray t) (length t)) (refused 6)
+    (cond (eqb (before 32 t) (length t)) (refused 7)
+    (withStation (stationOf (take (before 32 t) t)) (drop (before 32 t + 1) t)))
+
+-- 2 LENGTH, 3 START, 4 END, 5 LRC, and then what stands between STX and ETX
+unfoldable pub readFrame : List ℕ → Reading
+readFrame s =
+    cond (ltb (length s) 6 || ltb 255 (length s)) (refused 2)
+    (cond (eqb (getD s 0 0) 2)
+    (cond (eqb (getD s (length s - 2) 0) 3)
+    (cond (eqb (getD s (length s - 1) 0) (lrcOf (between 1 (length s - 1) s)))
+    (readInner (between 1 (length s - 2) s))
+    (refused 5))
+    (refused 4))
+    (refused 3))
+
+-- STX, the station, SP
+unfoldable pub opening : ℕ → List ℕ
+opening station = 2 ∷ (shortest station ++ (32 ∷ []))
+
+-- ETX and the LRC, after the bytes that follow STX
+unfoldable pub closing : List ℕ → List ℕ
+closing t = 3 ∷ lrcOf (t ++ (3 ∷ [])) ∷ []
+
+-- the frame of a station and a body
+unfoldable pub frameOf : ℕ → List ℕ → List ℕ
+frameOf station body = opening station ++ (body ++ closing (shortest station ++ (32 ∷ body)))
+
+-- every byte is one from 20h to 7Eh
+abbrev pub Printable : List ℕ → Type 0
+Printable [] = Unit
+Printable (b ∷ bs) = ((32 ≤ b) × (b ≤ 126)) × Printable bs

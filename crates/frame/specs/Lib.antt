@@ -1,0 +1,4 @@
+pub mod Checksum
+pub mod Fields
+pub mod Frame
+pub mod Back

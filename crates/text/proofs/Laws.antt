@@ -1,0 +1,72 @@
+-- Laws about lists that every proof above rests on: a list from an index on, a search, and bytes written at a place.
+use Prim.Native.Nat.{ℕ, suc, _+_, _≤_, _<_}
+use mathlib.Core.Path.{_≡_, refl, _∙_}
+use mathlib.Core.Bool.{Bool, true, false}
+use mathlib.Core.List.{List, [], _∷_, _++_, append-assoc}
+use native.Mathlib.Omega.{arith}
+use native.Mathlib.Nat.{add-zero}
+use native.Mathlib.Numerals.{add-one}
+use borrow.Author.Tests.{eq-eqb}
+use lib.ListN.{length, getD, drop, set, drop-of-length-le, length-append}
+use lib.Seq.{drop-cons, sets}
+use Rattle.text.specs.Scan.{until, before}
+use Rattle.text.specs.Put.{Put}
+
+-- ---- a list from an index on, where the index is inside, and where it is not
+
+pub here : (s : List ℕ) (i : ℕ) → i < length s → drop i s ≡ getD s i 0 ∷ drop (i + 1) s
+here s i h = rw (add-one, drop-cons s i 0 h)
+
+pub over : (s : List ℕ) (i : ℕ) → length s ≤ i → drop i s ≡ []
+over s i h = drop-of-length-le s h
+
+-- ---- a search
+
+pub until-hit : (test : ℕ → Bool) (s : List ℕ) (i : ℕ) → i < length s → test (getD s i 0) ≡ true → until test (drop i s) ≡ 0
+unfolding until
+until-hit test s i h e = simp (here s i h, e)
+
+pub until-miss : (test : ℕ → Bool) (s : List ℕ) (i : ℕ) → i < length s → test (getD s i 0) ≡ false → until test (drop i s) ≡ suc (until test (drop (i + 1) s))
+unfolding until
+until-miss test s i h e = simp (here s i h, e)
+
+pub until-end : (test : ℕ → Bool) (s : List ℕ) (i : ℕ) → length s ≤ i → until test (drop i s) ≡ 0
+unfolding until
+until-end test s i h = rw (over s i h)
+
+-- a search passes over us
+abbrev pub Skips : (ℕ → Bool) → List ℕ → Type 0
+Skips test us = (bs : List ℕ) → until test (us ++ bs) ≡ length us + until test bs
+
+pub skips-append : (test : ℕ → Bool) (us vs : List ℕ) → Skips test us → Skips test vs → Skips test (us ++ vs)
+skips-append test us vs p q bs = rw (append-assoc us vs bs, p (vs ++ bs), q bs) (omega (arith, length-append us vs))
+
+-- and stops at the byte behind
+pub skips-stop : (test : ℕ → Bool) (us : List ℕ) (b : ℕ) (bs : List ℕ) → Skips test us → test b ≡ true → until test (us ++ (b ∷ bs)) ≡ length us
+unfolding until
+skips-stop test us b bs p e = p (b ∷ bs) ∙ rw e (omega arith)
+
+-- a list that does not start with a
+pub not-first : (a : ℕ) (s : List ℕ) → 1 ≤ before a s → getD s 0 0 ≡ a → ⊥
+unfolding until
+not-first a [] h e = omega arith
+not-first a (b ∷ bs) h e = omega (arith, rw (eq-eqb b a e) at h)
+
+-- ---- bytes written at a place
+
+pub sets-append : (xs : List ℕ) (at : ℕ) (us vs : List ℕ) → sets xs at (us ++ vs) ≡ sets (sets xs at us) (at + length us) vs
+sets-append xs at [] vs = rw (add-zero at)
+sets-append xs at (u ∷ us) vs =
+    let e : suc at + length us ≡ at + suc (length us) = omega arith in
+    sets-append (set xs at u) (suc at) us vs ∙ rw e
+
+-- nothing was written
+pub put-none : (xs : List ℕ) (at : ℕ) → Put xs at [] at xs
+put-none xs at = record { next = omega arith; area = refl }
+
+-- one piece after another
+pub put-then : {xs : List ℕ} {at : ℕ} {us : List ℕ} {p : ℕ} {ys vs : List ℕ} {q : ℕ} {zs : List ℕ} → Put xs at us p ys → Put ys p vs q zs → Put xs at (us ++ vs) q zs
+put-then {xs} {at} {us} {p} {ys} {vs} {q} {zs} a b = record {
+  next = omega (arith, a .next, b .next, length-append us vs);
+  area = b .area ∙ simp (a .area, a .next, sets-append);
+}

@@ -1,0 +1,5 @@
+pub mod Laws
+pub mod Digits
+pub mod Decimals
+pub mod Signed
+pub mod Back

@@ -1,0 +1,5 @@
+pub mod Scan
+pub mod Put
+pub mod Whole
+pub mod Hundredths
+pub mod Back

@@ -1,0 +1,37 @@
+-- Whole numbers as text (document 01, "Numbers as text").
+use Prim.Native.Nat.{ℕ, _+_, _-_, _*_, _/_, _%_}
+use mathlib.Core.Bool.{Bool, cond, _&&_}
+use mathlib.Core.List.{List, [], _∷_, _++_}
+use lib.ListN.{length}
+use lib.Dec.{ltb, leb}
+use Rattle.text.specs.declared.whole.Whole.{Whole}
+use Rattle.text.specs.declared.whole.Whole.the-variants.{Value, Malformed}
+
+-- "0" to "9"
+abbrev pub isDigit : ℕ → Bool
+isDigit b = leb 48 b && leb b 57
+
+-- the digits read onto n
+unfoldable pub digitsOnto : ℕ → List ℕ → Whole
+digitsOnto n [] = Value n
+digitsOnto n (b ∷ bs) = cond (isDigit b) (digitsOnto (n * 10 + (b - 48)) bs) Malformed
+
+-- 1 to 4 digits, leading zeros allowed, no sign
+unfoldable pub readWhole : List ℕ → Whole
+readWhole s = cond (leb 1 (length s) && leb (length s) 4) (digitsOnto 0 s) Malformed
+
+-- the digit of v that counts units of u
+unfoldable pub place : ℕ → ℕ → List ℕ
+place u v = (v / u % 10 + 48) ∷ []
+
+-- that digit, or nothing where v is below u
+unfoldable pub leading : ℕ → ℕ → List ℕ
+leading u v = cond (ltb v u) [] (place u v)
+
+-- v below 10000, written shortest
+unfoldable pub shortest : ℕ → List ℕ
+shortest v = leading 1000 v ++ (leading 100 v ++ (leading 10 v ++ place 1 v))
+
+-- v below 10000, always with 4 digits
+unfoldable pub padded : ℕ → List ℕ
+padded v = place 1000 v ++ (place 100 v ++ (place 10 v ++ place 1 v))

@@ -1,0 +1,82 @@
+// Whole numbers: read from 1 to 4 digits, leading zeros allowed; written shortest, or always with 4 digits.
+use crate::put::put_byte;
+ghost use mathlib.Core.Path.{_≡_};
+ghost use Prim.Native.Nat.{_≤_, _<_, _+_};
+ghost use lib.ListN.{length};
+ghost use Rattle.text.specs.Put.{Put};
+ghost use Rattle.text.specs.Whole.{readWhole, place, leading, shortest, padded};
+
+// What a text is as a whole number.
+pub enum Whole {
+    Value(u16),
+    Malformed,
+}
+
+// Reads a whole number; any other text is malformed.
+pub fn read_whole(field: &[u8]) -> Whole
+    ensures { λ r. ⌜ r ≡ readWhole (now (field .entry)) ⌝ }
+{
+    if field.len() < 1 {
+        return Whole::Malformed;
+    }
+    if 4 < field.len() {
+        return Whole::Malformed;
+    }
+    let mut n: u16 = 0;
+    let mut i = 0;
+    while i < field.len() {
+        let b = field[i];
+        if b < b'0' {
+            return Whole::Malformed;
+        }
+        if b'9' < b {
+            return Whole::Malformed;
+        }
+        let d = b - b'0';
+        n = n * 10 + d as u16;
+        i += 1;
+    }
+    Whole::Value(n)
+}
+
+// Writes the digit of v that counts units of `unit`.
+pub fn put_place(area: &mut [u8], at: usize, unit: u16, v: u16) -> usize
+    requires { ⌜ (0 < unit) × (at < length (now area)) ⌝ }
+    ensures { λ r. ⌜ Put (now (area .entry)) at (place unit v) r (now (area .exit)) ⌝ }
+{
+    let d = v / unit % 10;
+    put_byte(area, at, d as u8 + b'0')
+}
+
+// Writes that digit, or nothing where v is below `unit`.
+fn put_leading(area: &mut [u8], at: usize, unit: u16, v: u16) -> usize
+    requires { ⌜ (0 < unit) × (at + length (leading unit v) ≤ length (now area)) ⌝ }
+    ensures { λ r. ⌜ Put (now (area .entry)) at (leading unit v) r (now (area .exit)) ⌝ }
+{
+    if v < unit {
+        return at;
+    }
+    put_place(area, at, unit, v)
+}
+
+// Writes v, below 10000, with no leading zero.
+pub fn put_shortest(area: &mut [u8], at: usize, v: u16) -> usize
+    requires { ⌜ at + length (shortest v) ≤ length (now area) ⌝ }
+    ensures { λ r. ⌜ Put (now (area .entry)) at (shortest v) r (now (area .exit)) ⌝ }
+{
+    let hundreds = put_leading(area, at, 1000, v);
+    let tens = put_leading(area, hundreds, 100, v);
+    let ones = put_leading(area, tens, 10, v);
+    put_place(area, ones, 1, v)
+}
+
+// Writes v, below 10000, with 4 digits.
+pub fn put_padded(area: &mut [u8], at: usize, v: u16) -> usize
+    requires { ⌜ at + 4 ≤ length (now area) ⌝ }
+    ensures { λ r. ⌜ Put (now (area .entry)) at (padded v) r (now (area .exit)) ⌝ }
+{
+    let hundreds = put_place(area, at, 1000, v);
+    let tens = put_place(area, hundreds, 100, v);
+    let ones = put_place(area, tens, 10, v);
+    put_place(area, ones, 1, v)
+}
