@@ -2,15 +2,16 @@
 use Prim.Native.Nat.{ℕ, zero, suc, _+_, _≤_, _<_}
 use mathlib.Core.Path.{_≡_, refl, ap, _∙_}
 use mathlib.Core.Bool.{Bool, true, false, cond}
-use mathlib.Core.List.{List, [], _∷_}
+use mathlib.Core.List.{List, [], _∷_, _++_, append-nil}
 use native.Mathlib.Omega.{arith}
 use native.Mathlib.Numerals.{add-one}
 use borrow.Author.Tests.{eqb-true, eqb-false}
 use lib.Arith.{lt-of-le-ne}
-use lib.ListN.{length, getD, take, drop}
-use lib.Seq.{drop-drop, drop-length}
+use lib.ListN.{length, getD, take, drop, length-append}
+use lib.Seq.{drop-drop, drop-length, take-length, take-append-seam, drop-append-add}
 use lib.Dec.{eqb}
 use Rattle.text.specs.Scan.{until, before}
+use Rattle.text.proofs.Laws.{Skips, skips-stop}
 use Rattle.frame.specs.Fields.{first, more, fields, startOf}
 use Rattle.frame.specs.Frame.{Reading, Read}
 
@@ -53,6 +54,33 @@ more-none (b ∷ bs) h = go (eqb b 32) h (λ k. more-none bs k)
     go : (t : Bool) → suc (length bs) ≤ cond t zero (suc (before 32 bs)) → (length bs ≤ before 32 bs → more bs ≡ []) → cond t (first bs ∷ more bs) (more bs) ≡ []
     go true k e = absurd (omega arith)
     go false k e = e (omega arith)
+
+-- where the first field ends at e: it is the only one, or the rest is cut in the same way
+module _ (s : List ℕ) (e : ℕ) (q : e ≡ 0 + before 32 s) where
+  pub fields-last : e ≡ length s → fields s ≡ s ∷ []
+  unfolding fields
+  fields-last h =
+      let k : before 32 s ≡ length s = omega arith in
+      rw (first-is s, k, take-length s, more-none s (omega arith))
+
+  pub fields-next : (e ≡ length s → ⊥) → fields s ≡ take e s ∷ fields (drop (e + 1) s)
+  unfolding fields
+  fields-next h =
+      let k : before 32 s ≡ e = omega arith in
+      let f : before 32 s < length s = lt-of-le-ne (until-within (λ b. eqb b 32) s) (λ z. h (omega arith)) in
+      rw (first-is s, more-found s f, k, add-one e)
+
+-- fields that are written with SP between them
+pub fields-cons : (us vs : List ℕ) → Skips (λ b. eqb b 32) us → fields (us ++ (32 ∷ vs)) ≡ us ∷ fields vs
+fields-cons us vs p =
+    let s : List ℕ = us ++ (32 ∷ vs) in
+    let e : length us ≡ 0 + before 32 s = omega (arith, skips-stop (λ b. eqb b 32) us 32 vs p refl) in
+    fields-next s (length us) e (λ z. omega (arith, z, length-append us (32 ∷ vs)))
+    ∙ rw (take-append-seam us (32 ∷ vs), drop-append-add us (32 ∷ vs) 1)
+
+pub fields-one : (us : List ℕ) → Skips (λ b. eqb b 32) us → fields us ≡ us ∷ []
+unfolding until
+fields-one us p = fields-last us (length us) (omega (arith, p [], ap (before 32) (append-nil us))) refl
 
 -- ---- field k is what stands from its start to the next SP
 
