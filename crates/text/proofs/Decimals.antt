@@ -106,7 +106,7 @@ magnitude-small s = joined-small (readWhole (take (before 46 s) s)) _ (whole-sma
 
 -- ---- lengths
 
-pub magnitude-length : (m : ℕ) → length (magnitudeText m) ≡ length (shortest (m / 100)) + 3
+pub magnitude-length : (m : ℕ) → length (magnitudeText m) ≡ length (shortest (m / 100 % 10000)) + 3
 unfolding magnitudeText
 magnitude-length m = simp (length-append, place-length) (omega arith)
 
@@ -122,8 +122,8 @@ text-pos (negsuc n) t = let e : _≡_ {A = ℕ} 0 1 = cc in absurd (omega arith)
 
 pub text-short : (z : ℤ) → length (hundredthsText z) ≤ 8
 unfolding hundredthsText
-text-short (pos m) = omega (arith, magnitude-length m, shortest-short (m / 100))
-text-short (negsuc m) = omega (arith, magnitude-length (suc m), shortest-short (suc m / 100))
+text-short (pos m) = omega (arith, magnitude-length m, shortest-short (m / 100 % 10000))
+text-short (negsuc m) = omega (arith, magnitude-length (suc m), shortest-short (suc m / 100 % 10000))
 
 -- ---- reading what was written
 
@@ -144,16 +144,17 @@ digit-not a h d k = ne-eqb (d + 48) a (λ e. omega arith)
 read-magnitude : (m : ℕ) → m < 1000000 → magnitude (magnitudeText m) ≡ Size m
 unfolding magnitudeText
 read-magnitude m h =
-    let point = skips-stop (λ b. eqb b 46) (shortest (m / 100)) 46 _ (shortest-skips _ (digit-not 46 (omega arith)) (m / 100)) refl in
-    cut (shortest (m / 100)) _ point
-    ∙ rw (read-shortest (m / 100) (omega arith), two-decimals (m % 100) (omega arith)) (ap Size (omega arith))
+    let w : ℕ = m / 100 % 10000 in
+    let point = skips-stop (λ b. eqb b 46) (shortest w) 46 _ (shortest-skips _ (digit-not 46 (omega arith)) w) refl in
+    cut (shortest w) _ point
+    ∙ rw (read-shortest w (omega arith), two-decimals (m % 100) (omega arith)) (ap Size (omega arith))
 
 -- a magnitude does not start with "-"
 unsigned : (m : ℕ) → getD (magnitudeText m) 0 0 ≡ 45 → ⊥
 unfolding magnitudeText
 unsigned m =
     let ds : List ℕ = 46 ∷ (place 10 (m % 100) ++ place 1 (m % 100)) in
-    not-first 45 (shortest (m / 100) ++ ds) (omega (arith, shortest-skips (λ b. eqb b 45) (digit-not 45 (omega arith)) (m / 100) ds, shortest-some (m / 100)))
+    not-first 45 (shortest (m / 100 % 10000) ++ ds) (omega (arith, shortest-skips (λ b. eqb b 45) (digit-not 45 (omega arith)) (m / 100 % 10000) ds, shortest-some (m / 100 % 10000)))
 
 pub read-hundredths : (z : ℤ) → natAbs z < 1000000 → readHundredths (hundredthsText z) ≡ hundredths.Value z
 unfolding readHundredths hundredthsText

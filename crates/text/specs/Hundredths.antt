@@ -51,9 +51,9 @@ signed false Unreadable = Malformed
 unfoldable pub readHundredths : List ℕ → Hundredths
 readHundredths s = cond (eqb (getD s 0 0) 45) (signed true (magnitude (drop 1 s))) (signed false (magnitude s))
 
--- the shortest whole part and two decimals
+-- the shortest whole part, of at most 4 digits, and two decimals
 unfoldable pub magnitudeText : ℕ → List ℕ
-magnitudeText m = shortest (m / 100) ++ (46 ∷ (place 10 (m % 100) ++ place 1 (m % 100)))
+magnitudeText m = shortest (m / 100 % 10000) ++ (46 ∷ (place 10 (m % 100) ++ place 1 (m % 100)))
 
 -- "-" only below zero
 unfoldable pub hundredthsText : ℤ → List ℕ

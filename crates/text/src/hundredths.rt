@@ -10,7 +10,6 @@ ghost use mathlib.Core.Path.{_≡_};
 ghost use Prim.Native.Nat.{_≤_, _<_, _+_};
 ghost use lib.ListN.{length};
 ghost use lib.IntN.{natAbs};
-ghost use lib.Signed.{mag};
 ghost use Rattle.text.specs.Put.{Put};
 ghost use Rattle.text.specs.Hundredths.{Small, decimals, magnitude, signed, readHundredths, magnitudeText, hundredthsText};
 
@@ -94,28 +93,27 @@ pub fn read_hundredths(field: &[u8]) -> Hundredths
 }
 
 // v without its sign.
-fn size_of(v: i32) -> u32
-    requires { ⌜ mag v < 1000000 ⌝ }
+pub fn size_of(v: i32) -> u32
     ensures { λ r. ⌜ r ≡ natAbs v ⌝ }
 {
-    if v < 0 { (0 - v) as u32 } else { v as u32 }
+    if v < 0 { (-1 - v) as u32 + 1 } else { v as u32 }
 }
 
 // Writes a number without a sign.
 fn put_magnitude(area: &mut [u8], at: usize, m: u32) -> usize
-    requires { ⌜ (m < 1000000) × (at + length (magnitudeText m) ≤ length (now area)) ⌝ }
+    requires { ⌜ at + length (magnitudeText m) ≤ length (now area) ⌝ }
     ensures { λ r. ⌜ Put (now (area .entry)) at (magnitudeText m) r (now (area .exit)) ⌝ }
 {
     let cents = (m % 100) as u16;
-    let point = put_shortest(area, at, (m / 100) as u16);
+    let point = put_shortest(area, at, (m / 100 % 10000) as u16);
     let tens = put_byte(area, point, b'.');
     let ones = put_place(area, tens, 10, cents);
     put_place(area, ones, 1, cents)
 }
 
-// Writes v hundredths.
+// Writes v hundredths; of a whole part with more than 4 digits, the last 4.
 pub fn put_hundredths(area: &mut [u8], at: usize, v: i32) -> usize
-    requires { ⌜ (natAbs v < 1000000) × (at + length (hundredthsText v) ≤ length (now area)) ⌝ }
+    requires { ⌜ at + length (hundredthsText v) ≤ length (now area) ⌝ }
     ensures { λ r. ⌜ Put (now (area .entry)) at (hundredthsText v) r (now (area .exit)) ⌝ }
 {
     let m = size_of(v);

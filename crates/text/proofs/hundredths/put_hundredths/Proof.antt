@@ -9,15 +9,12 @@ use mir.Facts.{toZ-ofZ}
 use mir.Syntax.{w32}
 use mir.Val.{toZ, ofZ}
 use Rattle.text.proofs.Laws.{put-then}
-use Rattle.text.proofs.Signed.{mag-abs}
 use Rattle.text.proofs.Decimals.{text-neg, text-pos}
 use Rattle.text.proofs.hundredths.put_hundredths.Statement.{statement}
 use Rattle.text.proofs.hundredths.put_hundredths.Tie as tie
 
 size-of-requires : tie.Need-size-of-requires
-size-of-requires c κs =
-    let s = c .before in
-    rw (toZ-ofZ (s .fits .v)) (mag-abs (s .args .v) 1000000 (s .pre .0))
+size-of-requires c κs = search needs
 
 put-byte-requires : tie.Need-put-byte-requires
 put-byte-requires c κs =
@@ -32,7 +29,7 @@ put-magnitude-requires c κs =
     let s = z .before .before in
     let t : ltZ (toZ w32 (ofZ w32 (s .args .v))) (pos 0) ≡ true = b .before .before .if1 .taken in
     let m : z .size-of .result ≡ natAbs (s .args .v) = z .size-of .ensures ∙ ap natAbs (toZ-ofZ (s .fits .v)) in
-    (omega arith, rw m (omega (arith, ap length (text-neg (s .args .v) (rw (toZ-ofZ (s .fits .v)) at t)), b .put-byte .kept .0, b .put-byte .ensures .next)))
+    rw m (omega (arith, ap length (text-neg (s .args .v) (rw (toZ-ofZ (s .fits .v)) at t)), b .put-byte .kept .0, b .put-byte .ensures .next))
 
 same-length : tie.Need-same-length
 same-length c = search needs
@@ -53,7 +50,7 @@ put-magnitude-requires-2 c κs =
     let s = z .before .before in
     let t : ltZ (toZ w32 (ofZ w32 (s .args .v))) (pos 0) ≡ false = c .before .if1 .left in
     let m : z .size-of .result ≡ natAbs (s .args .v) = z .size-of .ensures ∙ ap natAbs (toZ-ofZ (s .fits .v)) in
-    (omega arith, rw m (omega (arith, ap length (text-pos (s .args .v) (rw (toZ-ofZ (s .fits .v)) at t)))))
+    rw m (omega (arith, ap length (text-pos (s .args .v) (rw (toZ-ofZ (s .fits .v)) at t))))
 
 same-length-2 : tie.Need-same-length-2
 same-length-2 c = search needs
