@@ -8,7 +8,7 @@ use native.Mathlib.Numerals.{add-one}
 use borrow.Author.Tests.{eqb-true, eqb-false}
 use lib.Arith.{lt-of-le-ne}
 use lib.ListN.{length, getD, take, drop, length-append}
-use lib.Seq.{drop-drop, drop-length, take-length, take-append-seam, drop-append-add}
+use lib.Seq.{drop-drop, drop-length, take-all, take-length, take-append-seam, drop-append-add}
 use lib.Dec.{eqb}
 use Rattle.text.specs.Scan.{until, before}
 use Rattle.text.proofs.Laws.{Skips, skips-stop}
@@ -57,11 +57,20 @@ more-none (b ∷ bs) h = go (eqb b 32) h (λ k. more-none bs k)
 
 -- where the first field ends at e: it is the only one, or the rest is cut in the same way
 module _ (s : List ℕ) (e : ℕ) (q : e ≡ 0 + before 32 s) where
+  pub fields-first : fields s ≡ take e s ∷ more s
+  unfolding fields
+  fields-first =
+      let k : before 32 s ≡ e = omega arith in
+      rw (first-is s, k)
+
   pub fields-last : e ≡ length s → fields s ≡ s ∷ []
   unfolding fields
   fields-last h =
       let k : before 32 s ≡ length s = omega arith in
       rw (first-is s, k, take-length s, more-none s (omega arith))
+
+  pub fields-only : e ≡ length s → fields s ≡ take e s ∷ []
+  fields-only h = fields-last h ∙ rw (take-all e s (omega arith))
 
   pub fields-next : (e ≡ length s → ⊥) → fields s ≡ take e s ∷ fields (drop (e + 1) s)
   unfolding fields

@@ -1,7 +1,7 @@
 -- Frames read back: a frame that was written is accepted, with its station and its body.
 use Prim.Native.Nat.{ℕ, zero, suc, _+_, _-_, _≤_, _<_}
 use mathlib.Core.Path.{_≡_, refl, sym, ap, _∙_}
-use mathlib.Core.Bool.{Bool, true, false, cond, _&&_}
+use mathlib.Core.Bool.{Bool, true, false, _&&_}
 use mathlib.Core.List.{List, [], _∷_, _++_, append-assoc, append-nil}
 use mathlib.Core.Logic.{⊎-elim}
 use native.Mathlib.Nat.{add-zero, eq-or-lt-of-le, le-of-suc-le-suc}
@@ -10,7 +10,7 @@ use borrow.Author.Tests.{le-ltb, eq-eqb, ne-eqb}
 use lib.Dec.{T, eqb, eqb→eq}
 use lib.ListN.{length, length-append}
 use lib.Seq.{getD-at, getD-append-add, take-at, take-append-seam, take-append-add, drop-append-add}
-use Rattle.text.specs.Scan.{until, before}
+use Rattle.text.specs.Scan.{until}
 use Rattle.text.specs.Whole.{readWhole, digitsOnto, shortest, leading, place}
 use Rattle.frame.specs.Checksum.{lrcOf}
 use Rattle.frame.specs.Frame.{isStray, stray, stationOf, readInner, readFrame, opening, closing, frameOf, Printable}
@@ -26,10 +26,10 @@ unfolding until
 printable-skips [] p bs = omega arith
 printable-skips (b ∷ s) p bs = rw (le-ltb b 32 (p .0 .0), le-ltb 126 b (p .0 .1)) (omega (arith, printable-skips s (p .1) bs))
 
-digit-clean : (d : ℕ) → d < 10 → isStray (d + 48) ≡ false
+pub digit-clean : (d : ℕ) → d < 10 → isStray (d + 48) ≡ false
 digit-clean d h = rw (le-ltb (d + 48) 32 (omega arith), le-ltb 126 (d + 48) (omega arith))
 
-digit-solid : (d : ℕ) → d < 10 → eqb (d + 48) 32 ≡ false
+pub digit-solid : (d : ℕ) → d < 10 → eqb (d + 48) 32 ≡ false
 digit-solid d h = ne-eqb (d + 48) 32 (λ e. omega arith)
 
 -- ---- stations: each of 0 to 99 is read as itself, by one computed test

@@ -18,8 +18,8 @@ use Rattle.text.specs.declared.hundredths.Hundredths.the-variants as hun
 use Rattle.text.specs.Scan.{before}
 use Rattle.text.specs.Whole.{isDigit, digitsOnto, readWhole, place, shortest}
 use Rattle.text.specs.Hundredths.{decimals, magnitude, joined, times, signed, Small, readHundredths, magnitudeText, hundredthsText}
-use Rattle.text.proofs.Digits.{read-shortest, read-two, place-length, shortest-short, shortest-some, shortest-skips}
-use Rattle.text.proofs.Laws.{skips-stop, not-first}
+use Rattle.text.proofs.Digits.{read-shortest, read-two, place-length, shortest-short, shortest-some, shortest-skips, two-skips}
+use Rattle.text.proofs.Laws.{Skips, skips-cons, skips-append, skips-stop, not-first}
 
 -- ---- bounds
 
@@ -124,6 +124,25 @@ pub text-short : (z : ℤ) → length (hundredthsText z) ≤ 8
 unfolding hundredthsText
 text-short (pos m) = omega (arith, magnitude-length m, shortest-short (m / 100 % 10000))
 text-short (negsuc m) = omega (arith, magnitude-length (suc m), shortest-short (suc m / 100 % 10000))
+
+pub text-some : (z : ℤ) → 1 ≤ length (hundredthsText z)
+unfolding hundredthsText
+text-some (pos m) = omega (arith, magnitude-length m)
+text-some (negsuc m) = omega arith
+
+-- ---- a search for what is no digit, no "." and no "-" passes over the text
+
+module _ (test : ℕ → Bool) (none : (d : ℕ) → d < 10 → test (d + 48) ≡ false) (point : test 46 ≡ false) (minus : test 45 ≡ false) where
+  magnitude-skips : (m : ℕ) → Skips test (magnitudeText m)
+  unfolding magnitudeText
+  magnitude-skips m =
+      skips-append test (shortest (m / 100 % 10000)) _ (shortest-skips test none (m / 100 % 10000))
+      (skips-cons test 46 (place 10 (m % 100) ++ place 1 (m % 100)) point (two-skips test none (m % 100)))
+
+  pub hundredths-skips : (z : ℤ) → Skips test (hundredthsText z)
+  unfolding hundredthsText
+  hundredths-skips (pos m) = magnitude-skips m
+  hundredths-skips (negsuc m) = skips-cons test 45 (magnitudeText (suc m)) minus (magnitude-skips (suc m))
 
 -- ---- reading what was written
 

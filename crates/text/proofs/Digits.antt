@@ -125,3 +125,12 @@ module _ (test : ℕ → Bool) (none : (d : ℕ) → d < 10 → test (d + 48) �
       skips-append test (leading 1000 v) _ (leading-skips 1000 v)
       (skips-append test (leading 100 v) _ (leading-skips 100 v)
       (skips-append test (leading 10 v) _ (leading-skips 10 v) (place-skips 1 v)))
+
+  pub two-skips : (v : ℕ) → Skips test (place 10 v ++ place 1 v)
+  two-skips v = skips-append test (place 10 v) (place 1 v) (place-skips 10 v) (place-skips 1 v)
+
+  pub padded-skips : (v : ℕ) → Skips test (padded v)
+  unfolding padded
+  padded-skips v =
+      skips-append test (place 1000 v) _ (place-skips 1000 v)
+      (skips-append test (place 100 v) _ (place-skips 100 v) (two-skips v))

@@ -1,14 +1,14 @@
 -- Laws about lists that every proof above rests on: a list from an index on, a search, and bytes written at a place.
-use Prim.Native.Nat.{ℕ, suc, _+_, _≤_, _<_}
+use Prim.Native.Nat.{ℕ, zero, suc, _+_, _-_, _≤_, _<_}
 use mathlib.Core.Path.{_≡_, refl, _∙_}
-use mathlib.Core.Bool.{Bool, true, false}
+use mathlib.Core.Bool.{Bool, true, false, cond}
 use mathlib.Core.List.{List, [], _∷_, _++_, append-assoc}
 use native.Mathlib.Omega.{arith}
 use native.Mathlib.Nat.{add-zero}
 use native.Mathlib.Numerals.{add-one}
 use borrow.Author.Tests.{eq-eqb}
-use lib.ListN.{length, getD, drop, set, drop-of-length-le, length-append}
-use lib.Seq.{drop-cons, sets}
+use lib.ListN.{length, getD, take, drop, set, drop-of-length-le, length-append, length-drop}
+use lib.Seq.{drop-cons, take-all, sets}
 use Rattle.text.specs.Scan.{until, before}
 use Rattle.text.specs.Put.{Put}
 
@@ -19,6 +19,10 @@ here s i h = rw (add-one, drop-cons s i 0 h)
 
 pub over : (s : List ℕ) (i : ℕ) → length s ≤ i → drop i s ≡ []
 over s i h = drop-of-length-le s h
+
+-- a part up to the end is all that follows
+pub rest : (n : ℕ) (s : List ℕ) → take (length s - n) (drop n s) ≡ drop n s
+rest n s = take-all (length s - n) (drop n s) (simp length-drop (omega arith))
 
 -- ---- a search
 
@@ -41,7 +45,21 @@ Skips test us = (bs : List ℕ) → until test (us ++ bs) ≡ length us + until 
 pub skips-append : (test : ℕ → Bool) (us vs : List ℕ) → Skips test us → Skips test vs → Skips test (us ++ vs)
 skips-append test us vs p q bs = rw (append-assoc us vs bs, p (vs ++ bs), q bs) (omega (arith, length-append us vs))
 
--- and stops at the byte behind
+pub skips-cons : (test : ℕ → Bool) (b : ℕ) (s : List ℕ) → test b ≡ false → Skips test s → Skips test (b ∷ s)
+unfolding until
+skips-cons test b s e p bs = rw e (omega (arith, p bs))
+
+-- one that finds nothing in it
+pub skips-all : (test : ℕ → Bool) (s : List ℕ) → until test s ≡ length s → Skips test s
+unfolding until
+skips-all test [] e bs = omega arith
+skips-all test (b ∷ s) e bs = go (test b) e (λ k. skips-all test s k bs)
+  where
+    go : (t : Bool) → cond t zero (suc (until test s)) ≡ suc (length s) → (until test s ≡ length s → until test (s ++ bs) ≡ length s + until test bs) → cond t zero (suc (until test (s ++ bs))) ≡ suc (length s) + until test bs
+    go true e ih = absurd (omega arith)
+    go false e ih = omega (arith, ih (omega arith))
+
+-- it stops at the byte behind
 pub skips-stop : (test : ℕ → Bool) (us : List ℕ) (b : ℕ) (bs : List ℕ) → Skips test us → test b ≡ true → until test (us ++ (b ∷ bs)) ≡ length us
 unfolding until
 skips-stop test us b bs p e = p (b ∷ bs) ∙ rw e (omega arith)

@@ -38,3 +38,7 @@ turned (negsuc n) f t =
 pub above : (z : ℤ) → SFits w32 z → ltZ z (pos 0) ≡ false → T (nonNeg z) × Fits w32 (natAbs z)
 above (pos n) f t = (tt, record { fits = omega (arith, f .sfits) })
 above (negsuc n) f t = let e : _≡_ {A = ℕ} 0 1 = cc in absurd (omega arith)
+
+-- a signed number that fits is what its bits are read as
+pub i32-back : (z : ℤ) → mag z < 2147483648 → toZ w32 (ofZ w32 z) ≡ z
+i32-back z h = toZ-ofZ (record { sfits = h })

@@ -1,22 +1,17 @@
 -- Each return goes by the tests passed before it; `at` is where the station ends.
-use Prim.Native.Nat.{ℕ, _-_}
 use mathlib.Core.Path.{_≡_, sym}
-use mathlib.Core.List.{List}
 use native.Mathlib.Omega.{arith}
 use borrow.Author.Needs.{needs}
 use borrow.Author.Tests.{lt-ltb, le-ltb, eq-eqb, ne-eqb}
-use lib.ListN.{length, take, drop, length-drop}
-use lib.Seq.{length-take-le, take-all}
+use lib.Seq.{length-take-le}
 use Rattle.text.specs.Scan.{before}
 use Rattle.frame.specs.Frame.{readInner}
+use Rattle.text.proofs.Laws.{rest}
 use Rattle.frame.proofs.Laws.{answers}
 use Rattle.frame.proofs.reader.read_inner.Statement.{statement}
 use Rattle.frame.proofs.reader.read_inner.Tie as tie
 
 -- a part up to the end is all that follows
-rest : (n : ℕ) (s : List ℕ) → take (length s - n) (drop n s) ≡ drop n s
-rest n s = take-all (length s - n) (drop n s) (simp length-drop (omega arith))
-
 find-stray-requires : tie.Need-find-stray-requires
 find-stray-requires c κs = search needs
 

@@ -1,13 +1,13 @@
-use Prim.Native.Nat.{ℕ, _-_}
+use Prim.Native.Nat.{ℕ}
 use mathlib.Core.Path.{_≡_, sym, ap, subst, _∙_}
 use mathlib.Core.Bool.{true, false}
 use mathlib.Core.List.{List}
 use mathlib.Core.Logic.{⊎-elim}
 use native.Mathlib.Omega.{arith}
 use borrow.Author.Tests.{eq-eqb, ne-eqb}
-use lib.ListN.{length, getD, drop, length-drop, List·getD-eq-default}
-use lib.Seq.{take-all}
+use lib.ListN.{getD, drop, List·getD-eq-default}
 use Rattle.text.specs.Hundredths.{Small, magnitude, signed, readHundredths}
+use Rattle.text.proofs.Laws.{rest}
 use Rattle.text.proofs.Decimals.{magnitude-small}
 use borrow.Author.Needs.{needs}
 use Rattle.text.proofs.hundredths.read_hundredths.Statement.{statement}
@@ -21,46 +21,36 @@ no-minus : (s : List ℕ) → (getD s 0 0 ≡ 45 → ⊥) → readHundredths s �
 unfolding readHundredths
 no-minus s e = rw (ne-eqb _ _ e)
 
--- src/hundredths.rt:86:12
 shared-slice-read-if2 : tie.Need-shared-slice-read-if2
 shared-slice-read-if2 c = search needs
 
--- src/hundredths.rt:87:45
 sub-read-magnitude : tie.Need-sub-read-magnitude
 sub-read-magnitude c = search needs
 
--- src/hundredths.rt:87:45
 part-read-magnitude-start : tie.Need-part-read-magnitude-start
 part-read-magnitude-start c = search needs
 
--- src/hundredths.rt:87:45
 part-read-magnitude-end : tie.Need-part-read-magnitude-end
 part-read-magnitude-end c = search needs
 
--- src/hundredths.rt:87:30
 read-magnitude-requires : tie.Need-read-magnitude-requires
 read-magnitude-requires c κs = search needs
 
--- src/hundredths.rt:87:13
 with-sign-requires : tie.Need-with-sign-requires
 with-sign-requires c κs = subst Small (sym (c .read-magnitude .ensures)) (magnitude-small _)
 
--- src/hundredths.rt:87:13
 returns : tie.Need-returns
 returns c =
     let r = c .before in
     let s = r .before .before .before .before .before .before .args .field .now in
-    c .with-sign .ensures ∙ ap (signed true) (r .read-magnitude .ensures ∙ ap magnitude (take-all (length s - 1) (drop 1 s) (simp length-drop (omega arith)))) ∙ sym (minus s (r .before .before .if2 .taken))
+    c .with-sign .ensures ∙ ap (signed true) (r .read-magnitude .ensures ∙ ap magnitude (rest 1 s)) ∙ sym (minus s (r .before .before .if2 .taken))
 
--- src/hundredths.rt:90:15
 read-magnitude-requires-2 : tie.Need-read-magnitude-requires-2
 read-magnitude-requires-2 c κs = search needs
 
--- src/hundredths.rt:90:5
 with-sign-requires-2 : tie.Need-with-sign-requires-2
 with-sign-requires-2 c κs = subst Small (sym (c .read-magnitude2 .ensures)) (magnitude-small _)
 
--- src/hundredths.rt:82:1
 returns-2 : tie.Need-returns-2
 returns-2 c =
     let r = c .before in

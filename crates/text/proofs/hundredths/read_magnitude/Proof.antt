@@ -1,17 +1,18 @@
-use Prim.Native.Nat.{ℕ, _+_, _-_}
+use Prim.Native.Nat.{ℕ, _+_}
 use mathlib.Core.Path.{_≡_, sym, ap, _∙_}
 use mathlib.Core.Bool.{cond}
 use mathlib.Core.List.{List}
 use native.Mathlib.Omega.{arith}
 use borrow.Author.Tests.{eq-eqb, ne-eqb}
 use lib.Dec.{eqb}
-use lib.ListN.{length, take, drop, length-drop}
-use lib.Seq.{length-take-le, take-all}
+use lib.ListN.{length, take, drop}
+use lib.Seq.{length-take-le}
 use Rattle.text.specs.declared.whole.Whole.the-variants.{Value}
 use Rattle.text.specs.declared.hundredths.Magnitude.the-variants.{Size}
 use Rattle.text.specs.Scan.{before}
 use Rattle.text.specs.Whole.{readWhole}
 use Rattle.text.specs.Hundredths.{magnitude, joined, decimals}
+use Rattle.text.proofs.Laws.{rest}
 use borrow.Author.Needs.{needs}
 use Rattle.text.proofs.hundredths.read_magnitude.Statement.{statement}
 use Rattle.text.proofs.hundredths.read_magnitude.Tie as tie
@@ -22,10 +23,6 @@ unfolding magnitude
 at-point s e q =
     let h : before 46 s ≡ e = omega arith in
     rw h
-
--- a part that runs to the end
-rest : (s : List ℕ) (i : ℕ) → decimals (take (length s - i) (drop i s)) ≡ decimals (drop i s)
-rest s i = ap decimals (take-all (length s - i) (drop i s) (simp length-drop (omega arith)))
 
 -- src/hundredths.rt:49:9
 find-requires : tie.Need-find-requires
@@ -124,7 +121,7 @@ returns-3 c =
     let u = r .before .before .before .before in
     let w = u .before .before in
     let f = w .before .before in
-    sym (at-point (f .before .before .args .s .now) (f .find .result) (f .find .ensures .0) ∙ rw (sym (w .read-whole .ensures) ∙ u .w .given .1, ne-eqb _ _ (r .before .before .if1 .left), ← rest (f .before .before .args .s .now) (f .find .result + 1), sym (r .read-decimals .ensures) ∙ d .d .given .1))
+    sym (at-point (f .before .before .args .s .now) (f .find .result) (f .find .ensures .0) ∙ rw (sym (w .read-whole .ensures) ∙ u .w .given .1, ne-eqb _ _ (r .before .before .if1 .left), ← rest (f .find .result + 1) (f .before .before .args .s .now), sym (r .read-decimals .ensures) ∙ d .d .given .1))
 
 -- src/hundredths.rt:46:1
 returns-4 : tie.Need-returns-4
@@ -133,7 +130,7 @@ returns-4 c =
     let u = r .before .before .before .before in
     let w = u .before .before in
     let f = w .before .before in
-    sym (at-point (f .before .before .args .s .now) (f .find .result) (f .find .ensures .0) ∙ rw (sym (w .read-whole .ensures) ∙ u .w .given .1, ne-eqb _ _ (r .before .before .if1 .left), ← rest (f .before .before .args .s .now) (f .find .result + 1), sym (r .read-decimals .ensures) ∙ c .enum-told2 .given .1))
+    sym (at-point (f .before .before .args .s .now) (f .find .result) (f .find .ensures .0) ∙ rw (sym (w .read-whole .ensures) ∙ u .w .given .1, ne-eqb _ _ (r .before .before .if1 .left), ← rest (f .find .result + 1) (f .before .before .args .s .now), sym (r .read-decimals .ensures) ∙ c .enum-told2 .given .1))
 
 pub read-magnitude-spec : {M : Type 1} → statement M
 read-magnitude-spec =

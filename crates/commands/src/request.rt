@@ -1,0 +1,135 @@
+// Typed requests, and their parts. Numbers and data are wide enough to be out of range: a typed value that
+// no request can carry is refused by its writer.
+use crate::command::Command;
+ghost use mathlib.Core.Path.{_≡_};
+ghost use Rattle.commands.specs.Request.{singleParts, partsOf, loadParts, storeParts, requestOf};
+
+// The number of one signal or memory bit. It is never interchangeable with a port's.
+pub struct Signal(pub u16);
+
+// The number of a port of eight.
+pub struct Port(pub u16);
+
+// An offset row in hundredths of a millimetre. As the data of another kind, a single value stands in x.
+pub struct Row {
+    pub x: i32,
+    pub y: i32,
+}
+
+// What an LN asks for.
+pub enum Load {
+    Timer(u16),
+    Register(u16),
+    Row(u16),
+    Input(Signal),
+    InputPort(Port),
+    Output(Signal),
+    OutputPort(Port),
+    MemoryBit(Signal),
+    MemoryPort(Port),
+}
+
+// What an SN replaces, and by what.
+pub enum Store {
+    Timer(u16, i32),
+    Register(u16, i32),
+    Row(u16, Row),
+    Output(Signal, i32),
+    OutputPort(Port, i32),
+    MemoryBit(Signal, i32),
+    MemoryPort(Port, i32),
+}
+
+pub enum Request {
+    Load(Load),
+    Store(Store),
+}
+
+// A request as its text has it: the command, the number, and the data as numbers, which are 0 for an LN.
+pub struct Parts {
+    pub command: Command,
+    pub number: u16,
+    pub values: Row,
+}
+
+fn single(command: Command, number: u16, v: i32) -> Parts
+    ensures { λ r. ⌜ r ≡ singleParts command number v ⌝ }
+{
+    Parts {
+        command,
+        number,
+        values: Row { x: v, y: 0 },
+    }
+}
+
+fn load_parts(load: Load) -> Parts
+    ensures { λ r. ⌜ r ≡ loadParts load ⌝ }
+{
+    match load {
+        Load::Timer(n) => single(Command::Lnt, n, 0),
+        Load::Register(n) => single(Command::Lnd, n, 0),
+        Load::Row(n) => single(Command::Lnl, n, 0),
+        Load::Input(s) => single(Command::Lnib, s.0, 0),
+        Load::InputPort(p) => single(Command::Lnid, p.0, 0),
+        Load::Output(s) => single(Command::Lnob, s.0, 0),
+        Load::OutputPort(p) => single(Command::Lnod, p.0, 0),
+        Load::MemoryBit(s) => single(Command::Lnbb, s.0, 0),
+        Load::MemoryPort(p) => single(Command::Lnbd, p.0, 0),
+    }
+}
+
+fn store_parts(store: Store) -> Parts
+    ensures { λ r. ⌜ r ≡ storeParts store ⌝ }
+{
+    match store {
+        Store::Timer(n, v) => single(Command::Snt, n, v),
+        Store::Register(n, v) => single(Command::Snd, n, v),
+        Store::Row(n, row) => Parts {
+            command: Command::Snl,
+            number: n,
+            values: row,
+        },
+        Store::Output(s, v) => single(Command::Snob, s.0, v),
+        Store::OutputPort(p, v) => single(Command::Snod, p.0, v),
+        Store::MemoryBit(s, v) => single(Command::Snbb, s.0, v),
+        Store::MemoryPort(p, v) => single(Command::Snbd, p.0, v),
+    }
+}
+
+// The parts of a request.
+pub fn parts_of(request: Request) -> Parts
+    ensures { λ r. ⌜ r ≡ partsOf request ⌝ }
+{
+    match request {
+        Request::Load(load) => load_parts(load),
+        Request::Store(store) => store_parts(store),
+    }
+}
+
+// The request that has these parts.
+pub fn request_of(parts: Parts) -> Request
+    ensures { λ r. ⌜ r ≡ requestOf parts ⌝ }
+{
+    let n = parts.number;
+    let row = parts.values;
+    let v = row.x;
+    let command = parts.command;
+    match command {
+        Command::Lnt => Request::Load(Load::Timer(n)),
+        Command::Snt => Request::Store(Store::Timer(n, v)),
+        Command::Lnd => Request::Load(Load::Register(n)),
+        Command::Snd => Request::Store(Store::Register(n, v)),
+        Command::Lnl => Request::Load(Load::Row(n)),
+        Command::Snl => Request::Store(Store::Row(n, row)),
+        Command::Lnib => Request::Load(Load::Input(Signal(n))),
+        Command::Lnob => Request::Load(Load::Output(Signal(n))),
+        Command::Snob => Request::Store(Store::Output(Signal(n), v)),
+        Command::Lnid => Request::Load(Load::InputPort(Port(n))),
+        Command::Lnod => Request::Load(Load::OutputPort(Port(n))),
+        Command::Snod => Request::Store(Store::OutputPort(Port(n), v)),
+        Command::Lnbb => Request::Load(Load::MemoryBit(Signal(n))),
+        Command::Snbb => Request::Store(Store::MemoryBit(Signal(n), v)),
+        Command::Lnbd => Request::Load(Load::MemoryPort(Port(n))),
+        Command::Snbd => Request::Store(Store::MemoryPort(Port(n), v)),
+    }
+}

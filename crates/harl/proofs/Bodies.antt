@@ -1,0 +1,84 @@
+-- Bodies and frames: how long they are, and what a writer answers.
+use Prim.Native.Nat.{ℕ, _+_, _≤_}
+use mathlib.Core.Path.{_≡_, refl}
+use mathlib.Core.Bool.{Bool, true, false}
+use mathlib.Core.List.{List, []}
+use native.Mathlib.Omega.{arith}
+use lib.ListN.{length, length-append}
+use Rattle.text.specs.Put.{Put}
+use Rattle.text.specs.Whole.{place, shortest}
+use Rattle.text.proofs.Digits.{shortest-short}
+use Rattle.frame.specs.Frame.{frameOf}
+use Rattle.frame.proofs.Writing.{frame-length}
+use Rattle.commands.specs.declared.command.Command.{Command}
+use Rattle.commands.specs.declared.command.Command.the-variants.{Lnt, Snt, Lnd, Snd, Lnl, Snl, Lnib, Lnob, Snob, Lnid, Lnod, Snod, Lnbb, Snbb, Lnbd, Snbd}
+use Rattle.commands.specs.declared.command.Kind.{Kind}
+use Rattle.commands.specs.declared.command.Rule.{Rule}
+use Rattle.commands.specs.declared.request.Row.{Row}
+use Rattle.commands.specs.declared.request.Parts.{Parts}
+use Rattle.harl.specs.declared.reply.Outcome.{Outcome}
+use Rattle.harl.specs.declared.reply.Outcome.the-variants as outcome
+use Rattle.commands.specs.Command.{nameOf, ruleOf}
+use Rattle.harl.specs.Body.{dataPart, bodyText}
+use Rattle.harl.specs.Reply.{contentOf, statusText, outcomeText}
+use Rattle.harl.specs.Message.{Wrote}
+use Rattle.harl.proofs.Texts.{data-length}
+
+-- ---- lengths
+
+pub name-length : (c : Command) → length (nameOf c) ≤ 4
+unfolding nameOf
+name-length Lnt = omega arith
+name-length Snt = omega arith
+name-length Lnd = omega arith
+name-length Snd = omega arith
+name-length Lnl = omega arith
+name-length Snl = omega arith
+name-length Lnib = omega arith
+name-length Lnob = omega arith
+name-length Snob = omega arith
+name-length Lnid = omega arith
+name-length Lnod = omega arith
+name-length Snod = omega arith
+name-length Lnbb = omega arith
+name-length Snbb = omega arith
+name-length Lnbd = omega arith
+name-length Snbd = omega arith
+
+-- the parts of a body, one after the other
+pub body-parts : (p : Parts) → length (bodyText p) ≡ length (nameOf (p .command)) + (1 + (length (shortest (p .number)) + length (dataPart (ruleOf (p .command) .store) (ruleOf (p .command) .kind) (p .values))))
+unfolding bodyText
+body-parts p = simp length-append (omega arith)
+
+part-length : (t : Bool) (k : Kind) (r : Row) → length (dataPart t k r) ≤ 18
+part-length true k r = omega (arith, data-length k r .1)
+part-length false k r = omega arith
+
+pub body-length : (p : Parts) → (1 ≤ length (bodyText p)) × (length (bodyText p) ≤ 27)
+body-length p =
+    let d = part-length (ruleOf (p .command) .store) (ruleOf (p .command) .kind) (p .values) in
+    (omega (arith, body-parts p), omega (arith, body-parts p, name-length (p .command), shortest-short (p .number)))
+
+pub status-length : (t : Bool) (n : ℕ) → (1 ≤ length (statusText t n)) × (length (statusText t n) ≤ 3)
+unfolding statusText place
+status-length true n = (omega arith, omega arith)
+status-length false n = (omega arith, omega arith)
+
+pub outcome-length : (rule : Rule) (o : Outcome) → (1 ≤ length (outcomeText rule o)) × (length (outcomeText rule o) ≤ 17)
+unfolding outcomeText
+outcome-length rule (outcome.Data d) = data-length (contentOf d .kind) (contentOf d .row)
+outcome-length rule (outcome.Status n) =
+    let l = status-length (rule .store) n in
+    (l .0, omega arith)
+
+-- the frame of such a body fits in the area that a writer asks for
+pub frame-fits : (station : ℕ) (body : List ℕ) → length body ≤ 27 → length (frameOf station body) ≤ 64
+frame-fits station body h = omega (arith, frame-length station body, shortest-short station)
+
+-- ---- what a writer answers
+
+pub wrote-none : {n : ℕ} {xs : List ℕ} → Wrote (record { number = n; bytes = [] }) xs (record { number = n; length = 0 }) xs
+wrote-none = record { number = refl; length-is = refl; area = refl }
+
+pub wrote-all : {bytes xs ys : List ℕ} {r : ℕ} → Put xs 0 bytes r ys → Wrote (record { number = 0; bytes = bytes }) xs (record { number = 0; length = r }) ys
+wrote-all p = record { number = refl; length-is = omega (arith, p .next); area = p .area }

@@ -1,0 +1,54 @@
+-- What data that answer a command are.
+use Prim.Native.Nat.{ℕ, zero, suc, _<_}
+use mathlib.Core.Path.{_≡_, refl, sym, ap, _∙_}
+use mathlib.Core.Bool.{Bool, true, false, cond, _&&_}
+use native.Mathlib.Omega.{arith}
+use borrow.Author.Tests.{eqb-true}
+use lib.Dec.{eqb}
+use lib.IntN.{ℤ}
+use lib.Signed.{mag}
+use mir.Facts.{toZ-ofZ}
+use mir.Syntax.{w32}
+use mir.Val.{toZ, ofZ}
+use Rattle.commands.specs.declared.command.Kind.{Kind}
+use Rattle.commands.specs.declared.command.Kind.the-variants.{Timer, Register, Row, Signal, Port}
+use Rattle.commands.specs.declared.command.Rule.{Rule}
+use Rattle.harl.specs.declared.reply.Content.{Content}
+use Rattle.harl.specs.declared.reply.Data.{Data}
+use Rattle.harl.specs.declared.reply.Outcome.the-variants as outcome
+use Rattle.harl.specs.Data.{allInRange}
+use Rattle.harl.specs.Reply.{contentOf, codeOf, dataFit, judgeOutcome}
+
+-- a kind is known by its number
+pub kind-is : (k j : Kind) → codeOf k ≡ codeOf j → k ≡ j
+kind-is k j e = sym (back k) ∙ ap kindOf e ∙ back j
+  where
+    kindOf : ℕ → Kind
+    kindOf zero = Timer
+    kindOf (suc zero) = Register
+    kindOf (suc (suc zero)) = Row
+    kindOf (suc (suc (suc zero))) = Signal
+    kindOf (suc (suc (suc (suc n)))) = Port
+
+    back : (k : Kind) → kindOf (codeOf k) ≡ k
+    back Timer = refl
+    back Register = refl
+    back Row = refl
+    back Signal = refl
+    back Port = refl
+
+-- what data meet that a reply may carry: they answer an LN of their kind, and are in range
+pub record Fitting (rule : Rule) (content : Content) : Type 0 where
+  pub loads : rule .store ≡ false
+  pub kind : content .kind ≡ rule .kind
+  pub range : allInRange (rule .kind) (content .row) ≡ true
+
+pub fitting : (rule : Rule) (d : Data) → judgeOutcome rule (outcome.Data d) ≡ 0 → Fitting rule (contentOf d)
+unfolding judgeOutcome dataFit
+fitting rule d = go (rule .store) (eqb (codeOf (contentOf d .kind)) (codeOf (rule .kind))) (allInRange (rule .kind) (contentOf d .row)) refl refl refl
+  where
+    go : (s t u : Bool) → rule .store ≡ s → eqb (codeOf (contentOf d .kind)) (codeOf (rule .kind)) ≡ t → allInRange (rule .kind) (contentOf d .row) ≡ u → _≡_ {A = ℕ} (cond (cond s false (t && u)) 0 12) 0 → Fitting rule (contentOf d)
+    go true t u p q r e = absurd (omega arith)
+    go false false u p q r e = absurd (omega arith)
+    go false true false p q r e = absurd (omega arith)
+    go false true true p q r e = record { loads = p; kind = kind-is _ _ (eqb-true _ _ q); range = r }

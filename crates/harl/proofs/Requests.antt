@@ -1,0 +1,184 @@
+-- Every request that can be written reads back as itself.
+use Prim.Native.Nat.{ℕ, _≤_, _<_}
+use mathlib.Core.Path.{_≡_, refl, ap}
+use mathlib.Core.Bool.{Bool, true, false, _||_}
+use mathlib.Core.List.{List, [], _∷_, _++_, append-nil}
+use native.Mathlib.Omega.{arith}
+use borrow.Author.Tests.{ltb-true, ltb-false, eqb-false}
+use lib.Dec.{ltb, eqb}
+use lib.IntN.{pos}
+use lib.ListN.{length}
+use Rattle.text.specs.Scan.{until, before}
+use Rattle.text.specs.Whole.{shortest}
+use Rattle.text.proofs.Laws.{Skips, skips-all, skips-cons, skips-append}
+use Rattle.text.proofs.Digits.{read-shortest, shortest-skips}
+use Rattle.frame.specs.Fields.{fields}
+use Rattle.frame.specs.Frame.{isStray, stray}
+use Rattle.frame.proofs.Laws.{fields-cons, fields-one}
+use Rattle.frame.proofs.Reading.{digit-clean}
+use Rattle.commands.specs.declared.command.Command.{Command}
+use Rattle.commands.specs.declared.command.Command.the-variants.{Lnt, Snt, Lnd, Snd, Lnl, Snl, Lnib, Lnob, Snob, Lnid, Lnod, Snod, Lnbb, Snbb, Lnbd, Snbd}
+use Rattle.commands.specs.declared.command.Named.the-variants.{Is}
+use Rattle.commands.specs.declared.command.Kind.{Kind}
+use Rattle.commands.specs.declared.command.Rule.{Rule}
+use Rattle.commands.specs.declared.request.Row.{Row}
+use Rattle.commands.specs.declared.request.Load.the-variants as load
+use Rattle.commands.specs.declared.request.Store.the-variants as store
+use Rattle.commands.specs.declared.request.Request.{Request}
+use Rattle.commands.specs.declared.request.Request.the-variants as request
+use Rattle.commands.specs.declared.request.Parts.{Parts}
+use Rattle.harl.specs.declared.data.Values.the-variants as values
+use Rattle.harl.specs.declared.body.Shape.the-variants as shape
+use Rattle.harl.specs.declared.body.Judged.the-variants.{Accepted}
+use Rattle.commands.specs.Command.{same, nameOf, among, commandOf, ruleOf}
+use Rattle.commands.specs.Request.{one, partsOf, requestOf}
+use Rattle.harl.specs.Data.{judge, allInRange, dataText}
+use Rattle.harl.specs.Body.{dataShape, readShape, decided, readBody, dataPart, bodyText}
+use Rattle.harl.specs.Message.{ruleFor, judgeAsked, readRequest, writeRequest}
+use Rattle.harl.specs.Back.{RequestsReadBack}
+use Rattle.harl.proofs.Bodies.{body-length}
+use Rattle.harl.proofs.Ranges.{passed}
+use Rattle.harl.proofs.Texts.{check-passed, neither, shortest-solid, data-clean, frame-back, kept, data-back}
+
+-- ---- the sixteen commands, by computation
+
+-- the name is read as the command, has no SP and no stray byte, and the numbers have at most 4 digits
+record Sound (c : Command) : Type 0 where
+  named : commandOf (nameOf c) ≡ Is c
+  solid : before 32 (nameOf c) ≡ length (nameOf c)
+  clean : stray (nameOf c) ≡ length (nameOf c)
+  small : ltb (ruleOf c .last) 10000 ≡ true
+
+sound : (c : Command) → Sound c
+unfolding commandOf among same nameOf until
+sound Lnt = record { named = refl; solid = refl; clean = refl; small = refl }
+sound Snt = record { named = refl; solid = refl; clean = refl; small = refl }
+sound Lnd = record { named = refl; solid = refl; clean = refl; small = refl }
+sound Snd = record { named = refl; solid = refl; clean = refl; small = refl }
+sound Lnl = record { named = refl; solid = refl; clean = refl; small = refl }
+sound Snl = record { named = refl; solid = refl; clean = refl; small = refl }
+sound Lnib = record { named = refl; solid = refl; clean = refl; small = refl }
+sound Lnob = record { named = refl; solid = refl; clean = refl; small = refl }
+sound Snob = record { named = refl; solid = refl; clean = refl; small = refl }
+sound Lnid = record { named = refl; solid = refl; clean = refl; small = refl }
+sound Lnod = record { named = refl; solid = refl; clean = refl; small = refl }
+sound Snod = record { named = refl; solid = refl; clean = refl; small = refl }
+sound Lnbb = record { named = refl; solid = refl; clean = refl; small = refl }
+sound Snbb = record { named = refl; solid = refl; clean = refl; small = refl }
+sound Lnbd = record { named = refl; solid = refl; clean = refl; small = refl }
+sound Snbd = record { named = refl; solid = refl; clean = refl; small = refl }
+
+name-solid : (c : Command) → Skips (λ b. eqb b 32) (nameOf c)
+name-solid c = skips-all (λ b. eqb b 32) (nameOf c) (sound c .solid)
+
+name-clean : (c : Command) → Skips isStray (nameOf c)
+name-clean c = skips-all isStray (nameOf c) (sound c .clean)
+
+-- what a body gives of the data: those of an SN, and none of an LN
+abbrev given : Bool → Kind → Row → Row
+given true k r = kept k r
+given false k r = one (pos 0)
+
+-- a request has the data that its body gives, and is what its parts make
+record Parted (r : Request) : Type 0 where
+  values-are : given (ruleFor r .store) (ruleFor r .kind) (partsOf r .values) ≡ partsOf r .values
+  made : requestOf (partsOf r) ≡ r
+
+parted : (r : Request) → Parted r
+parted (request.Load (load.Timer n)) = record { values-are = refl; made = refl }
+parted (request.Load (load.Register n)) = record { values-are = refl; made = refl }
+parted (request.Load (load.Row n)) = record { values-are = refl; made = refl }
+parted (request.Load (load.Input s)) = record { values-are = refl; made = refl }
+parted (request.Load (load.InputPort p)) = record { values-are = refl; made = refl }
+parted (request.Load (load.Output s)) = record { values-are = refl; made = refl }
+parted (request.Load (load.OutputPort p)) = record { values-are = refl; made = refl }
+parted (request.Load (load.MemoryBit s)) = record { values-are = refl; made = refl }
+parted (request.Load (load.MemoryPort p)) = record { values-are = refl; made = refl }
+parted (request.Store (store.Timer n v)) = record { values-are = refl; made = refl }
+parted (request.Store (store.Register n v)) = record { values-are = refl; made = refl }
+parted (request.Store (store.Row n r)) = record { values-are = refl; made = refl }
+parted (request.Store (store.Output s v)) = record { values-are = refl; made = refl }
+parted (request.Store (store.OutputPort p v)) = record { values-are = refl; made = refl }
+parted (request.Store (store.MemoryBit s v)) = record { values-are = refl; made = refl }
+parted (request.Store (store.MemoryPort p v)) = record { values-are = refl; made = refl }
+
+-- ---- the fields after the name
+
+-- the fields after the number
+abbrev dataFields : Bool → Kind → Row → List (List ℕ)
+dataFields true k r = fields (dataText k r)
+dataFields false k r = []
+
+number-fields : (t : Bool) (k : Kind) (n : ℕ) (r : Row) → fields (shortest n ++ dataPart t k r) ≡ shortest n ∷ dataFields t k r
+number-fields true k n r = fields-cons (shortest n) (dataText k r) (shortest-solid n)
+number-fields false k n r = rw (append-nil (shortest n)) (fields-one (shortest n) (shortest-solid n))
+
+given-back : (t : Bool) (k : Kind) (r : Row) → allInRange k r ≡ true → dataShape t k (dataFields t k r) ≡ values.Of (given t k r)
+given-back true k r e = data-back k r e
+given-back false k r e = refl
+
+shape-back : (rule : Rule) (n : ℕ) (r : Row) → n < 10000 → allInRange (rule .kind) r ≡ true → readShape rule (fields (shortest n ++ dataPart (rule .store) (rule .kind) r)) ≡ shape.Of n (given (rule .store) (rule .kind) r)
+unfolding readShape
+shape-back rule n r h e =
+    rw (number-fields (rule .store) (rule .kind) n r, read-shortest n h, given-back (rule .store) (rule .kind) r e)
+
+-- ---- the body
+
+-- the number has at most 4 digits, and the data are in range
+judged-ok : (c : Command) (n : ℕ) (r : Row) → judge (ruleOf c) n r ≡ 0 → (n < 10000) × (allInRange (ruleOf c .kind) r ≡ true)
+judged-ok c n r e =
+    let p = passed (ruleOf c) n r e in
+    (omega (arith, p .high, ltb-true (ruleOf c .last) 10000 (sound c .small)), p .values)
+
+body-back : (r : Request) → judge (ruleFor r) (partsOf r .number) (partsOf r .values) ≡ 0 → readBody (bodyText (partsOf r)) ≡ Accepted r
+unfolding readBody bodyText decided
+body-back r e =
+    let c : Command = partsOf r .command in
+    let n : ℕ = partsOf r .number in
+    let v : Row = partsOf r .values in
+    let p = judged-ok c n v e in
+    rw (
+      fields-cons (nameOf c) (shortest n ++ dataPart (ruleOf c .store) (ruleOf c .kind) v) (name-solid c),
+      sound c .named,
+      shape-back (ruleOf c) n v (p .0) (p .1),
+      parted r .values-are,
+      e,
+    )
+    (ap Accepted (parted r .made))
+
+part-clean : (t : Bool) (k : Kind) (r : Row) → Skips isStray (dataPart t k r)
+part-clean true k r = skips-cons isStray 32 (dataText k r) refl (data-clean k r)
+part-clean false k r = λ bs. omega arith
+
+body-clean : (p : Parts) → Skips isStray (bodyText p)
+unfolding bodyText
+body-clean p =
+    let rule : Rule = ruleOf (p .command) in
+    let d : List ℕ = dataPart (rule .store) (rule .kind) (p .values) in
+    let n : List ℕ = shortest (p .number) ++ d in
+    skips-append isStray (nameOf (p .command)) (32 ∷ n) (name-clean (p .command))
+    (skips-cons isStray 32 n refl
+    (skips-append isStray (shortest (p .number)) d (shortest-skips isStray digit-clean (p .number))
+    (part-clean (rule .store) (rule .kind) (p .values))))
+
+-- ---- the frame
+
+-- the station is from 1 to 99, and the request is in range
+pub asked-ok : (st : ℕ) (r : Request) → judgeAsked st r ≡ 0 → ((1 ≤ st) × (st ≤ 99)) × (judge (ruleFor r) (partsOf r .number) (partsOf r .values) ≡ 0)
+unfolding judgeAsked
+asked-ok st r e =
+    let p = check-passed (eqb st 0 || ltb 99 st) 7 (judge (ruleFor r) (partsOf r .number) (partsOf r .values)) (omega arith) e in
+    let q = neither (eqb st 0) (ltb 99 st) (p .0) in
+    let z = eqb-false st 0 (q .0) in
+    ((omega arith, ltb-false 99 st (q .1)), p .1)
+
+pub requests-read-back : RequestsReadBack
+unfolding writeRequest readRequest
+requests-read-back room st r e =
+    let a = asked-ok st r (check-passed (ltb room 64) 1 (judgeAsked st r) (omega arith) e .1) in
+    let l = body-length (partsOf r) in
+    rw (
+      e,
+      frame-back st (bodyText (partsOf r)) (a .0 .0) (a .0 .1) (body-clean (partsOf r)) (l .0) (omega arith),
+      body-back r (a .1),
+    )

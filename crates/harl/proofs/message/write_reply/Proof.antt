@@ -1,0 +1,101 @@
+-- `j` is where the request was judged, `p` where it was taken apart, `v` where the outcome was judged, `o` where the frame was opened, `b` where the outcome was put, and `f` where the frame was closed.
+use Prim.Native.Nat.{_≤_}
+use mathlib.Core.Path.{_≡_, sym, _∙_}
+use native.Mathlib.Omega.{arith}
+use borrow.Author.Needs.{needs}
+use borrow.Author.Tests.{lt-ltb, le-ltb, eq-eqb, ne-eqb}
+use lib.ListN.{length}
+use Rattle.text.proofs.Digits.{shortest-short}
+use Rattle.frame.proofs.Writing.{opening-length, framed}
+use Rattle.harl.specs.Reply.{judgeOutcome, outcomeText}
+use Rattle.harl.specs.Message.{judgeReply, writeReply}
+use Rattle.harl.proofs.Bodies.{outcome-length, frame-fits, wrote-none, wrote-all}
+use Rattle.harl.proofs.message.write_reply.Statement.{statement}
+use Rattle.harl.proofs.message.write_reply.Tie as tie
+
+returns : tie.Need-returns
+unfolding writeReply judgeReply
+returns c = rw (lt-ltb _ _ (c .if1 .taken)) wrote-none
+
+judge-asked-requires : tie.Need-judge-asked-requires
+judge-asked-requires c κs = search needs
+
+returns-2 : tie.Need-returns-2
+unfolding writeReply judgeReply
+returns-2 c =
+    let j = c .before in
+    let n = ne-eqb _ _ (c .if2 .taken) in
+    rw (le-ltb _ _ (j .before .if1 .left), ← j .judge-asked .ensures, n, n) wrote-none
+
+parts-of-requires : tie.Need-parts-of-requires
+parts-of-requires c κs = search needs
+
+rule-of-requires : tie.Need-rule-of-requires
+rule-of-requires c κs = search needs
+
+judge-outcome-requires : tie.Need-judge-outcome-requires
+judge-outcome-requires c κs = search needs
+
+returns-3 : tie.Need-returns-3
+unfolding writeReply judgeReply
+returns-3 c =
+    let v = c .before in
+    let p = v .before .before in
+    let j = p .before .before in
+    rw (le-ltb _ _ (j .before .if1 .left), ← j .judge-asked .ensures, eq-eqb _ _ (p .before .if2 .left), ← p .parts-of .ensures, ← v .before .rule-of .ensures, ← v .judge-outcome .ensures, ne-eqb _ _ (c .if3 .taken)) wrote-none
+
+open-frame-requires : tie.Need-open-frame-requires
+open-frame-requires c κs =
+    let st = c .before .before .before .before .before .before .before .before .before .args .station in
+    omega (arith, opening-length st, shortest-short st)
+
+put-outcome-requires : tie.Need-put-outcome-requires
+put-outcome-requires c κs =
+    let o = c .before .before .before in
+    let v = o .before .before .before in
+    let a = v .before .before .before .before .before .before .before .args in
+    omega (arith, opening-length (a .station), shortest-short (a .station), outcome-length (v .before .rule-of .result) (a .outcome) .1, o .open-frame .kept .0, o .open-frame .ensures .next)
+
+close-frame-requires : tie.Need-close-frame-requires
+close-frame-requires c κs =
+    let b = c .before .before .before in
+    let o = b .before .before .before .before in
+    let v = o .before .before .before in
+    let a = v .before .before .before .before .before .before .before .args in
+    omega (arith, opening-length (a .station), shortest-short (a .station), outcome-length (v .before .rule-of .result) (a .outcome) .1, o .open-frame .kept .0, o .open-frame .ensures .next, b .put-outcome .kept .0, b .put-outcome .ensures .next)
+
+same-length : tie.Need-same-length
+same-length c = search needs
+
+returns-4 : tie.Need-returns-4
+unfolding writeReply judgeReply
+returns-4 c =
+    let f = c .before .before in
+    let b = f .before .before .before .before in
+    let o = b .before .before .before .before in
+    let v = o .before .before .before in
+    let p = v .before .before in
+    let j = p .before .before in
+    let a = j .before .before .before .args in
+    let rule = v .before .rule-of .result in
+    let z : judgeOutcome rule (a .outcome) ≡ 0 = sym (v .judge-outcome .ensures) ∙ o .before .before .if3 .left in
+    let short : length (outcomeText rule (a .outcome)) ≤ 27 = omega (arith, outcome-length rule (a .outcome) .1) in
+    rw (le-ltb _ _ (j .before .if1 .left), ← j .judge-asked .ensures, eq-eqb _ _ (p .before .if2 .left), ← p .parts-of .ensures, ← v .before .rule-of .ensures, z)
+    (wrote-all (framed (a .station) (o .open-frame .ensures) (b .put-outcome .ensures) (f .close-frame .ensures) (omega (arith, frame-fits (a .station) (outcomeText rule (a .outcome)) short))))
+
+pub write-reply-spec : {M : Type 1} → statement M
+write-reply-spec =
+    tie.close
+    (tie.spec
+    returns
+    judge-asked-requires
+    returns-2
+    parts-of-requires
+    rule-of-requires
+    judge-outcome-requires
+    returns-3
+    open-frame-requires
+    put-outcome-requires
+    close-frame-requires
+    same-length
+    returns-4)

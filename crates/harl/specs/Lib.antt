@@ -1,0 +1,5 @@
+pub mod Data
+pub mod Body
+pub mod Reply
+pub mod Message
+pub mod Back

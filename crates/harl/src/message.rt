@@ -1,0 +1,148 @@
+// The four entries: a request read and written, a reply written and read. None has a `requires`. A refused
+// reader hands back its number alone; a refused writer reports length 0 and leaves the area untouched.
+use crate::body::Judged;
+use crate::body::put_body;
+use crate::body::read_body;
+use crate::data::judge_parts;
+use crate::reply::Carried;
+use crate::reply::Outcome;
+use crate::reply::judge_outcome;
+use crate::reply::put_outcome;
+use crate::reply::read_outcome;
+use commands::command::rule_of;
+use commands::request::Request;
+use commands::request::parts_of;
+use frame::reader::read_frame;
+use frame::writer::close_frame;
+use frame::writer::open_frame;
+ghost use mathlib.Core.Path.{_≡_};
+ghost use lib.ListN.{length};
+ghost use Rattle.harl.specs.Message.{judgeAsked, readRequest, writeRequest, writeReply, readReply, Wrote};
+
+// What a slice is as a request: its station and the request, or the number of its refusal.
+pub enum Asked {
+    Accepted(u8, Request),
+    Refused(u8),
+}
+
+// What a slice is as a reply: what it carries, or the number of its refusal.
+pub enum Answered {
+    Accepted(Outcome),
+    Refused(u8),
+}
+
+// What a writer answers: the number of its refusal, or 0 and the length of the frame.
+pub struct Sent {
+    pub number: u8,
+    pub length: usize,
+}
+
+// Checks 7, 11 and 12 of a typed request, in that order; 0 where all pass.
+fn judge_asked(station: u8, request: Request) -> u8
+    ensures { λ r. ⌜ r ≡ judgeAsked station request ⌝ }
+{
+    if station == 0 {
+        return 7;
+    }
+    if 99 < station {
+        return 7;
+    }
+    let parts = parts_of(request);
+    let command = parts.command;
+    let number = parts.number;
+    let row = parts.values;
+    judge_parts(rule_of(command), number, row)
+}
+
+// Reads a request: checks 2 to 7, then 9 to 12.
+pub fn read_request(slice: &[u8]) -> Asked
+    ensures { λ r. ⌜ r ≡ readRequest (now (slice .entry)) ⌝ }
+{
+    let mut number: u8 = 0;
+    let mut station: u8 = 0;
+    let body = read_frame(slice, &mut number, &mut station);
+    if number != 0 {
+        return Asked::Refused(number);
+    }
+    let judged = read_body(body);
+    match judged {
+        Judged::Accepted(request) => Asked::Accepted(station, request),
+        Judged::Refused(n, _) => Asked::Refused(n),
+    }
+}
+
+// Writes a request: checks 1, 7, 11 and 12.
+pub fn write_request(area: &mut [u8], station: u8, request: Request) -> Sent
+    ensures { λ r. ⌜ Wrote (writeRequest (length (now (area .entry))) station request) (now (area .entry)) r (now (area .exit)) ⌝ }
+{
+    if area.len() < 64 {
+        return Sent {
+            number: 1,
+            length: 0,
+        };
+    }
+    let number = judge_asked(station, request);
+    if number != 0 {
+        return Sent { number, length: 0 };
+    }
+    let at = open_frame(area, station);
+    let end = put_body(area, at, parts_of(request));
+    let length = close_frame(area, end);
+    Sent { number: 0, length }
+}
+
+// Writes the reply to a request: checks 1, 7, 11 and 12 of the request, then 12 of what the reply carries.
+pub fn write_reply(area: &mut [u8], station: u8, request: Request, outcome: Outcome) -> Sent
+    ensures { λ r. ⌜ Wrote (writeReply (length (now (area .entry))) station request outcome) (now (area .entry)) r (now (area .exit)) ⌝ }
+{
+    if area.len() < 64 {
+        return Sent {
+            number: 1,
+            length: 0,
+        };
+    }
+    let asked = judge_asked(station, request);
+    if asked != 0 {
+        return Sent {
+            number: asked,
+            length: 0,
+        };
+    }
+    let parts = parts_of(request);
+    let command = parts.command;
+    let rule = rule_of(command);
+    let number = judge_outcome(rule, outcome);
+    if number != 0 {
+        return Sent { number, length: 0 };
+    }
+    let at = open_frame(area, station);
+    let end = put_outcome(area, at, rule, outcome);
+    let length = close_frame(area, end);
+    Sent { number: 0, length }
+}
+
+// Reads the reply to a request: checks 7, 11 and 12 of the request, 2 to 7 of the slice, then 15.
+pub fn read_reply(slice: &[u8], station: u8, request: Request) -> Answered
+    ensures { λ r. ⌜ r ≡ readReply (now (slice .entry)) station request ⌝ }
+{
+    let asked = judge_asked(station, request);
+    if asked != 0 {
+        return Answered::Refused(asked);
+    }
+    let mut number: u8 = 0;
+    let mut from: u8 = 0;
+    let body = read_frame(slice, &mut number, &mut from);
+    if number != 0 {
+        return Answered::Refused(number);
+    }
+    if from != station {
+        return Answered::Refused(15);
+    }
+    let parts = parts_of(request);
+    let command = parts.command;
+    let carried = read_outcome(rule_of(command), body);
+    match carried {
+        Carried::Outcome(outcome) => Answered::Accepted(outcome),
+        Carried::Nothing => Answered::Refused(15),
+    }
+}

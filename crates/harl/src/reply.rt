@@ -1,0 +1,232 @@
+// The body of a reply, read and written.
+use crate::data::Values;
+use crate::data::all_in_range;
+use crate::data::put_data;
+use crate::data::read_data;
+use commands::command::Kind;
+use commands::command::Rule;
+use commands::command::is_same;
+use commands::request::Row;
+use text::put::put_byte;
+use text::put::put_bytes;
+use text::whole::Whole;
+use text::whole::put_place;
+use text::whole::read_whole;
+ghost use mathlib.Core.Path.{_≡_};
+ghost use Prim.Native.Nat.{_≤_, _+_};
+ghost use lib.ListN.{length};
+ghost use Rattle.text.specs.Put.{Put};
+ghost use Rattle.harl.specs.Reply.{contentFrom, contentOf, dataOf, codeOf, judgeOutcome, statusText, contentText, outcomeText, refusalText, readStatus, readLoadOutcome, readOutcome};
+
+// The status of an SN that was done.
+const DONE: [u8; 2] = *b"00";
+
+// The reply to a name that is no command's.
+const UNKNOWN: [u8; 3] = *b"E09";
+
+// The data of a reply, by their kind.
+pub enum Data {
+    Timer(i32),
+    Register(i32),
+    Row(Row),
+    Signal(i32),
+    Port(i32),
+}
+
+// What a reply carries: data, or a status. For an SN the status 0 means done.
+pub enum Outcome {
+    Data(Data),
+    Status(u8),
+}
+
+// What the body of a reply is.
+pub enum Carried {
+    Outcome(Outcome),
+    Nothing,
+}
+
+// Data as a kind and numbers.
+pub struct Content {
+    pub kind: Kind,
+    pub row: Row,
+}
+
+fn single(kind: Kind, v: i32) -> Content
+    ensures { λ r. ⌜ r ≡ contentFrom kind v ⌝ }
+{
+    Content {
+        kind,
+        row: Row { x: v, y: 0 },
+    }
+}
+
+fn content_of(held: Data) -> Content
+    ensures { λ r. ⌜ r ≡ contentOf held ⌝ }
+{
+    match held {
+        Data::Timer(v) => single(Kind::Timer, v),
+        Data::Register(v) => single(Kind::Register, v),
+        Data::Row(row) => Content {
+            kind: Kind::Row,
+            row,
+        },
+        Data::Signal(v) => single(Kind::Signal, v),
+        Data::Port(v) => single(Kind::Port, v),
+    }
+}
+
+// The data of a kind that these numbers are.
+pub fn data_of(kind: Kind, row: Row) -> Data
+    ensures { λ r. ⌜ r ≡ dataOf kind row ⌝ }
+{
+    let v = row.x;
+    match kind {
+        Kind::Timer => Data::Timer(v),
+        Kind::Register => Data::Register(v),
+        Kind::Row => Data::Row(row),
+        Kind::Signal => Data::Signal(v),
+        Kind::Port => Data::Port(v),
+    }
+}
+
+// A number for each kind, by which two are compared.
+fn code_of(kind: Kind) -> u8
+    ensures { λ r. ⌜ r ≡ codeOf kind ⌝ }
+{
+    match kind {
+        Kind::Timer => 0,
+        Kind::Register => 1,
+        Kind::Row => 2,
+        Kind::Signal => 3,
+        Kind::Port => 4,
+    }
+}
+
+// Check 12 of what a reply carries, for the command that it answers; 0 where it passes.
+pub fn judge_outcome(rule: Rule, outcome: Outcome) -> u8
+    ensures { λ r. ⌜ r ≡ judgeOutcome rule outcome ⌝ }
+{
+    match outcome {
+        Outcome::Data(held) => {
+            if rule.store {
+                return 12;
+            }
+            let content = content_of(held);
+            let kind = rule.kind;
+            let row = content.row;
+            let found = content.kind;
+            if code_of(found) != code_of(kind) {
+                return 12;
+            }
+            if all_in_range(kind, row) {
+                return 0;
+            }
+            12
+        }
+        Outcome::Status(n) => {
+            if 99 < n {
+                return 12;
+            }
+            0
+        }
+    }
+}
+
+// Writes a status below 100: two digits, after "E" for an LN.
+pub fn put_status(area: &mut [u8], at: usize, store: bool, n: u8) -> usize
+    requires { ⌜ at + length (statusText store n) ≤ length (now area) ⌝ }
+    ensures { λ r. ⌜ Put (now (area .entry)) at (statusText store n) r (now (area .exit)) ⌝ }
+{
+    if store {
+        if n == 0 {
+            return put_bytes(area, at, &DONE);
+        }
+        let ones = put_place(area, at, 10, n as u16);
+        return put_place(area, ones, 1, n as u16);
+    }
+    let tens = put_byte(area, at, b'E');
+    let ones = put_place(area, tens, 10, n as u16);
+    put_place(area, ones, 1, n as u16)
+}
+
+// Writes what answers a refusal: of a name that is no command's, or of an LN or SN name.
+pub fn put_refusal(area: &mut [u8], at: usize, n: u8, store: bool) -> usize
+    requires { ⌜ at + 3 ≤ length (now area) ⌝ }
+    ensures { λ r. ⌜ Put (now (area .entry)) at (refusalText n store) r (now (area .exit)) ⌝ }
+{
+    if n == 9 {
+        return put_bytes(area, at, &UNKNOWN);
+    }
+    put_status(area, at, store, n)
+}
+
+// Writes the data of a reply.
+pub fn put_held(area: &mut [u8], at: usize, held: Data) -> usize
+    requires { ⌜ at + length (contentText (contentOf held)) ≤ length (now area) ⌝ }
+    ensures { λ r. ⌜ Put (now (area .entry)) at (contentText (contentOf held)) r (now (area .exit)) ⌝ }
+{
+    let content = content_of(held);
+    let kind = content.kind;
+    let row = content.row;
+    put_data(area, at, kind, row)
+}
+
+// Writes what a reply carries.
+pub fn put_outcome(area: &mut [u8], at: usize, rule: Rule, outcome: Outcome) -> usize
+    requires { ⌜ at + length (outcomeText rule outcome) ≤ length (now area) ⌝ }
+    ensures { λ r. ⌜ Put (now (area .entry)) at (outcomeText rule outcome) r (now (area .exit)) ⌝ }
+{
+    match outcome {
+        Outcome::Data(held) => put_held(area, at, held),
+        Outcome::Status(n) => put_status(area, at, rule.store, n),
+    }
+}
+
+// Reads two digits as a status.
+fn read_status(s: &[u8]) -> Carried
+    ensures { λ r. ⌜ r ≡ readStatus (now (s .entry)) ⌝ }
+{
+    if is_same(s, &DONE) {
+        return Carried::Outcome(Outcome::Status(0));
+    }
+    if s.len() != 2 {
+        return Carried::Nothing;
+    }
+    let w = read_whole(s);
+    match w {
+        Whole::Value(v) => Carried::Outcome(Outcome::Status(v as u8)),
+        Whole::Malformed => Carried::Nothing,
+    }
+}
+
+// Reads the reply to an LN: "E" and a status, or data in range.
+fn read_load_outcome(kind: Kind, body: &[u8]) -> Carried
+    ensures { λ r. ⌜ r ≡ readLoadOutcome kind (now (body .entry)) ⌝ }
+{
+    if 0 < body.len() {
+        if body[0] == b'E' {
+            return read_status(&body[1..]);
+        }
+    }
+    let values = read_data(kind, body);
+    match values {
+        Values::Of(row) => {
+            if all_in_range(kind, row) {
+                return Carried::Outcome(Outcome::Data(data_of(kind, row)));
+            }
+            Carried::Nothing
+        }
+        Values::Malformed => Carried::Nothing,
+    }
+}
+
+// Reads the body of a reply to a command.
+pub fn read_outcome(rule: Rule, body: &[u8]) -> Carried
+    ensures { λ r. ⌜ r ≡ readOutcome rule (now (body .entry)) ⌝ }
+{
+    if rule.store {
+        return read_status(body);
+    }
+    let kind = rule.kind;
+    read_load_outcome(kind, body)
+}
