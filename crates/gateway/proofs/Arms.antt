@@ -1,0 +1,88 @@
+-- What a decision does to the arm of slot k: one that concerns it goes as the lone box goes, and one that
+-- concerns another slot leaves it as it was.
+use Prim.Native.Nat.{ℕ, _<_}
+use mathlib.Core.Path.{_≡_, refl, sym, ap}
+use native.Mathlib.Nat.{sub-zero}
+use lib.ListN.{getD}
+use Rattle.frame.specs.Frame.{readFrame}
+use Rattle.commands.specs.declared.request.Load.{Load}
+use Rattle.commands.specs.declared.request.Load.the-variants as load
+use Rattle.commands.specs.declared.request.Store.{Store}
+use Rattle.commands.specs.declared.request.Store.the-variants as store
+use Rattle.commands.specs.declared.request.Request.the-variants as request
+use Rattle.harl.specs.declared.body.Judged.{Judged}
+use Rattle.harl.specs.declared.body.Judged.the-variants as judged
+use Rattle.harl.specs.Body.{readBody}
+use Rattle.tables.specs.Tables.{loaded, stored}
+use Rattle.gateway.specs.Call.{Call, serve, input}
+use Rattle.gateway.specs.Box.{Box, at, Decision, turned, refused, asked, sensed, decideBody, perform, respond}
+use Rattle.gateway.specs.Lone.{holds, replaced, Step, hear, step}
+use Rattle.gateway.specs.Addressed.{eventOf, armOf}
+use Rattle.gateway.specs.Shaped.{Shaped}
+use Rattle.gateway.proofs.Laws.{row-other, row-same}
+use Rattle.gateway.proofs.Slots.{concerns, heard}
+
+-- the box after a store
+abbrev storedIn : Box → ℕ → Store → Box
+storedIn b j q = record { stations = b .stations; tables = stored j q (b .tables) }
+
+-- ---- its own
+
+pub record Agrees (b : Box) (k : ℕ) (d : Decision) (r : Step) : Type 0 where
+  pub arm : armOf k (perform b d) ≡ r .arm
+  pub answer : respond b d ≡ r .answer
+
+module _ (b : Box) (k : ℕ) (h : Shaped (b .tables)) (l : k < 4) where
+  loaded-same : (q : Load) → loaded k q (b .tables) ≡ holds (armOf k b) q
+  unfolding loaded holds
+  loaded-same (load.Timer n) = refl
+  loaded-same (load.Register n) = refl
+  loaded-same (load.Row n) = refl
+  loaded-same (load.Input g) = rw sub-zero
+  loaded-same (load.InputPort p) = refl
+  loaded-same (load.Output g) = rw sub-zero
+  loaded-same (load.OutputPort p) = refl
+  loaded-same (load.MemoryBit g) = refl
+  loaded-same (load.MemoryPort p) = refl
+
+  stored-same : (q : Store) → armOf k (storedIn b k q) ≡ replaced (armOf k b) q
+  unfolding stored replaced
+  stored-same (store.Timer n v) = search row-same
+  stored-same (store.Register n v) = search row-same
+  stored-same (store.Row n r) = search row-same
+  stored-same (store.Output g v) = search (row-same, sub-zero)
+  stored-same (store.OutputPort p v) = search row-same
+  stored-same (store.MemoryBit g v) = search row-same
+  stored-same (store.MemoryPort p v) = search row-same
+
+  body-same : (own : ℕ) (j : Judged) → Agrees b k (decideBody k own j) (hear own (armOf k b) j)
+  unfolding perform respond
+  body-same own (judged.Accepted (request.Load q)) = record { arm = refl; answer = rw (loaded-same q) }
+  body-same own (judged.Accepted (request.Store q)) = record { arm = stored-same q; answer = refl }
+  body-same own (judged.Refused n q) = record { arm = refl; answer = refl }
+
+  pub same : (c : Call) → Agrees b k (heard k (b .stations) c) (step (getD (b .stations) k 0) (armOf k b) (eventOf c))
+  unfolding step perform respond
+  same (serve slice room) = body-same (getD (b .stations) k 0) (readBody (readFrame slice .body))
+  same (input j p v) = record { arm = search row-same; answer = refl }
+
+-- ---- another slot's
+
+module _ (b : Box) (k : ℕ) where
+  stored-other : (j : ℕ) (q : Store) → (k ≡ j → ⊥) → armOf k (storedIn b j q) ≡ armOf k b
+  unfolding stored
+  stored-other j (store.Timer n v) ne = simp row-other
+  stored-other j (store.Register n v) ne = simp row-other
+  stored-other j (store.Row n r) ne = simp row-other
+  stored-other j (store.Output g v) ne = simp row-other
+  stored-other j (store.OutputPort p v) ne = simp row-other
+  stored-other j (store.MemoryBit g v) ne = simp row-other
+  stored-other j (store.MemoryPort p v) ne = simp row-other
+
+  pub other : (d : Decision) → (concerns d ≡ at k → ⊥) → armOf k (perform b d) ≡ armOf k b
+  unfolding perform
+  other (turned n) h = refl
+  other (refused j s n q) h = refl
+  other (asked j s (request.Load l)) h = refl
+  other (asked j s (request.Store q)) h = stored-other j q (λ e. h (ap at (sym e)))
+  other (sensed j p v) h = rw (row-other (b .tables .inputs) j k p v (λ e. h (ap at (sym e))))

@@ -1,0 +1,118 @@
+-- Over any list of calls each arm goes as its lone box (demand 3), and the tables keep their shape.
+use Prim.Native.Nat.{ℕ, _<_}
+use mathlib.Core.Path.{_≡_, refl, sym, ap, ap₂, _∙_, subst}
+use mathlib.Core.Bool.{Bool, true, false, cond}
+use mathlib.Core.List.{List, [], _∷_}
+use lib.ListN.{getD, getD-replicate}
+use Rattle.tables.specs.Tables.{Tables, zeros}
+use Rattle.gateway.specs.Call.{Call}
+use Rattle.gateway.specs.Box.{Box, setup, Slot, nowhere, at, Decision, turned, refused, asked, sensed, decide, performTables, perform, after, answer, run}
+use Rattle.gateway.specs.Lone.{Arm, blank, Event, step, runLone, answersLone}
+use Rattle.gateway.specs.Addressed.{Fitted, isFor, eventOf, eventsFor, answersTo, armOf}
+use Rattle.gateway.specs.Shaped.{Shaped, AlwaysShaped}
+use Rattle.gateway.specs.Demand3.{Isolated, Demand3}
+use Rattle.gateway.proofs.Laws.{false-true}
+use Rattle.gateway.proofs.Slots.{Apart, setup-apart, nowhere-at, concerns, concerned, decided}
+use Rattle.gateway.proofs.Arms.{other, same}
+use Rattle.gateway.proofs.Shaped.{after-shaped, setup-shaped}
+
+-- ---- one call
+
+after-stations : (b : Box) (c : Call) → after b c .stations ≡ b .stations
+unfolding after perform
+after-stations b c = refl
+
+module _ (b : Box) (k : ℕ) (c : Call) where
+  after-other : isFor k (b .stations) c ≡ false → armOf k (after b c) ≡ armOf k b
+  unfolding after
+  after-other e = other b k (decide (b .stations) c) (λ w. false-true (sym e ∙ concerned (b .stations) k c w .addressed))
+
+  after-same : Apart (b .stations) → Fitted k (b .stations) → Shaped (b .tables) → isFor k (b .stations) c ≡ true
+      → (armOf k (after b c) ≡ step (getD (b .stations) k 0) (armOf k b) (eventOf c) .arm)
+      × (answer b c ≡ step (getD (b .stations) k 0) (armOf k b) (eventOf c) .answer)
+  unfolding after answer
+  after-same g f h e =
+      let w = same b k h (f .0) c in
+      rw (decided (b .stations) k c g f e) (w .arm, w .answer)
+
+-- ---- a list of calls
+
+record Follows (b : Box) (k : ℕ) (cs : List Call) (own : ℕ) (a : Arm) (es : List Event) : Type 0 where
+  tables : armOf k (run b cs) ≡ runLone own a es
+  answers : answersTo k b cs ≡ answersLone own a es
+
+follows : (b : Box) (k : ℕ) (cs : List Call) → Apart (b .stations) → Fitted k (b .stations) → Shaped (b .tables)
+    → Follows b k cs (getD (b .stations) k 0) (armOf k b) (eventsFor k (b .stations) cs)
+unfolding run runLone answersTo answersLone eventsFor
+follows b k [] g f h = record { tables = refl; answers = refl }
+follows b k (c ∷ cs) g f h =
+    let kept = after-stations b c in
+    go (isFor k (b .stations) c) refl
+    (subst (λ (s : List ℕ). Follows (after b c) k cs (getD s k 0) (armOf k (after b c)) (eventsFor k s cs)) kept
+    (follows (after b c) k cs (rw kept g) (rw kept f) (after-shaped b c h)))
+  where
+    own : ℕ
+    own = getD (b .stations) k 0
+
+    es : List Event
+    es = eventsFor k (b .stations) cs
+
+    go : (t : Bool) → isFor k (b .stations) c ≡ t → Follows (after b c) k cs own (armOf k (after b c)) es
+        → Follows b k (c ∷ cs) own (armOf k b) (cond t (eventOf c ∷ es) es)
+    go true e ih =
+        let (p, q) = after-same b k c g f h e in
+        record {
+          tables = ih .tables ∙ ap (λ a. runLone own a es) p;
+          answers = rw e (ap₂ (λ x r. x ∷ r) q (ih .answers ∙ ap (λ a. answersLone own a es) p));
+        }
+    go false e ih =
+        let p = after-other b k c e in
+        record {
+          tables = ih .tables ∙ ap (λ a. runLone own a es) p;
+          answers = rw e (ih .answers ∙ ap (λ a. answersLone own a es) p);
+        }
+
+-- what every call keeps, a list keeps
+run-keeps : (P : Box → Type 0) → ((b : Box) (c : Call) → P b → P (after b c)) → (cs : List Call) (b : Box) → P b → P (run b cs)
+unfolding run
+run-keeps P keeps [] b h = h
+run-keeps P keeps (c ∷ cs) b h = run-keeps P keeps cs (after b c) (keeps b c h)
+
+run-stations : (cs : List Call) (b : Box) → run b cs .stations ≡ b .stations
+run-stations cs b = run-keeps (λ d. d .stations ≡ b .stations) (λ d c e. after-stations d c ∙ e) cs b refl
+
+-- ---- a call addressed to no arm
+
+unconcerned : (t : Tables) (d : Decision) → concerns d ≡ nowhere → performTables t d ≡ t
+unconcerned t (turned n) e = refl
+unconcerned t (refused k s n q) e = refl
+unconcerned t (asked k s r) e = nowhere-at (sym e)
+unconcerned t (sensed k p v) e = nowhere-at (sym e)
+
+quiet : (b : Box) (c : Call) → ((k : ℕ) → Fitted k (b .stations) → isFor k (b .stations) c ≡ false) → after b c .tables ≡ b .tables
+unfolding after perform
+quiet b c n = go (concerns (decide (b .stations) c)) refl
+  where
+    go : (s : Slot) → concerns (decide (b .stations) c) ≡ s → performTables (b .tables) (decide (b .stations) c) ≡ b .tables
+    go nowhere e = unconcerned (b .tables) (decide (b .stations) c) e
+    go (at k) e = let w = concerned (b .stations) k c e in false-true (sym (n k (w .fitted)) ∙ w .addressed)
+
+-- ---- from setup
+
+setup-blank : (want : List ℕ) (k : ℕ) → k < 4 → armOf k (setup want) ≡ blank
+unfolding setup zeros blank
+setup-blank want k l = search getD-replicate
+
+isolated : (want : List ℕ) (cs : List Call) (k : ℕ) → Fitted k (setup want .stations) → Isolated (setup want) k cs
+isolated want cs k f =
+    let w = follows (setup want) k cs (setup-apart want) f (setup-shaped want) in
+    let e = setup-blank want k (f .0) in
+    record { tables = rw (← e) (w .tables); answers = rw (← e) (w .answers) }
+
+pub demand3 : (want : List ℕ) (cs : List Call) → Demand3 want cs
+demand3 want cs =
+    let e = run-stations cs (setup want) in
+    record { alone = isolated want cs; quiet = λ c n. quiet (run (setup want) cs) c (rw e n); stations = e }
+
+pub always-shaped : AlwaysShaped
+always-shaped want cs = run-keeps (λ b. Shaped (b .tables)) after-shaped cs (setup want) (setup-shaped want)

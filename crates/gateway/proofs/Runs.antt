@@ -1,0 +1,24 @@
+-- The runs of specs/Examples.antt, by computation.
+use mathlib.Core.Path.{refl}
+use Rattle.text.specs.Scan.{until}
+use Rattle.text.specs.Whole.{digitsOnto, readWhole, place, leading, shortest, padded}
+use Rattle.text.specs.Hundredths.{decimals, magnitude, readHundredths, magnitudeText, hundredthsText}
+use Rattle.frame.specs.Checksum.{xorOnto, lrcOf}
+use Rattle.frame.specs.Fields.{first, more, fields}
+use Rattle.frame.specs.Frame.{stationOf, readInner, readFrame, opening, closing, frameOf}
+use Rattle.commands.specs.Command.{same, nameOf, among, commandOf}
+use Rattle.harl.specs.Data.{inRange, allInRange, judge, rowText}
+use Rattle.harl.specs.Body.{readShape, decided, readBody}
+use Rattle.harl.specs.Reply.{statusText}
+use Rattle.tables.specs.Tables.{loaded, stored, zeros}
+use Rattle.gateway.specs.Box.{lacks, distinct, small, setupNumber, setup, scan, slotOf, decide, perform, respond, after, answer}
+use Rattle.gateway.specs.Examples.{answered, Runs}
+
+pub runs-hold : Runs
+unfolding until digitsOnto readWhole place leading shortest padded
+    decimals magnitude readHundredths magnitudeText hundredthsText
+    xorOnto lrcOf first more fields stationOf readInner readFrame opening closing frameOf
+    same nameOf among commandOf inRange allInRange judge rowText readShape decided readBody statusText
+    loaded stored zeros
+    lacks distinct small setupNumber setup scan slotOf decide perform respond after answer answered
+runs-hold = refl

@@ -1,0 +1,182 @@
+-- The slot that a call concerns. Setup leaves no nonzero station twice, so the slot that `decide` finds is the
+-- one that the call is addressed to, by `isFor`.
+use Prim.Native.Nat.{ℕ, zero, suc, _+_, _<_, _≤_}
+use mathlib.Core.Path.{_≡_, refl, sym, ap, _∙_}
+use mathlib.Core.Bool.{Bool, true, false, cond, not, _&&_, _||_}
+use mathlib.Core.List.{List}
+use native.Mathlib.Omega.{arith}
+use native.Mathlib.Decide.{ℕ-discrete}
+use borrow.Author.Tests.{ltb-false, leb-true, eqb-true, eqb-false, not-true, le-ltb, le-leb, eq-eqb, ne-eqb}
+use lib.ListN.{getD, replicate, getD-replicate}
+use lib.Dec.{ltb, leb, eqb}
+use Rattle.frame.specs.Frame.{Reading, readFrame}
+use Rattle.harl.specs.declared.body.Judged.{Judged}
+use Rattle.harl.specs.declared.body.Judged.the-variants as judged
+use Rattle.harl.specs.Body.{readBody}
+use Rattle.gateway.specs.Call.{Call, serve, input}
+use Rattle.gateway.specs.Box.{lacks, distinct, small, setupNumber, setup, Slot, nowhere, at, scan, slotOf, Decision, turned, refused, asked, sensed, decideBody, decideSlot, decideFrame, decide}
+use Rattle.gateway.specs.Addressed.{Fitted, isFor}
+use Rattle.gateway.proofs.Laws.{and-left, and-right}
+
+-- ---- no nonzero station stands twice
+
+abbrev pub Apart : List ℕ → Type 0
+Apart st = (a b : ℕ) → a < b → b < 4 → getD st a 0 ≡ getD st b 0 → (getD st a 0 ≡ 0 → ⊥) → ⊥
+
+lacks-not : (st : List ℕ) (s m i : ℕ) → lacks st s m i ≡ true → (k : ℕ) → i ≤ k → k < i + m → getD st k 0 ≡ s → ⊥
+unfolding lacks
+lacks-not st s zero i e k l h q = omega arith
+lacks-not st s (suc m) i e k l h q =
+    let t : Bool = not (eqb (getD st i 0) s) in
+    go (ℕ-discrete i k) (and-left t _ e) (λ l′. lacks-not st s m (suc i) (and-right t _ e) k l′ (omega arith) q)
+  where
+    go : Dec (i ≡ k) → not (eqb (getD st i 0) s) ≡ true → (i < k → ⊥) → ⊥
+    go (yes y) n ih = eqb-false (getD st i 0) s (not-true _ n) (rw y q)
+    go (no y) n ih = ih (omega arith)
+
+distinct-apart : (st : List ℕ) (m i : ℕ) → distinct st m i ≡ true
+    → (a b : ℕ) → i ≤ a → a < b → b < i + m → getD st a 0 ≡ getD st b 0 → (getD st a 0 ≡ 0 → ⊥) → ⊥
+unfolding distinct
+distinct-apart st zero i e a b l₁ l₂ l₃ q f = omega arith
+distinct-apart st (suc m) i e a b l₁ l₂ l₃ q f =
+    let t : Bool = eqb (getD st i 0) 0 || lacks st (getD st i 0) m (suc i) in
+    go (ℕ-discrete i a) (eqb (getD st i 0) 0) refl (and-left t _ e)
+    (λ l. distinct-apart st m (suc i) (and-right t _ e) a b l l₂ (omega arith) q f)
+  where
+    go : Dec (i ≡ a) → (t : Bool) → eqb (getD st i 0) 0 ≡ t → t || lacks st (getD st i 0) m (suc i) ≡ true → (i < a → ⊥) → ⊥
+    go (no y) t et h ih = ih (omega arith)
+    go (yes y) true et h ih = f (rw (← y) (eqb-true _ 0 et))
+    go (yes y) false et h ih = lacks-not st (getD st i 0) m (suc i) h b (omega arith) (omega arith) (rw y (sym q))
+
+pub setup-apart : (want : List ℕ) → Apart (setup want .stations)
+unfolding setup setupNumber
+setup-apart want = go (small want 4 0 && distinct want 4 0) refl
+  where
+    go : (t : Bool) → small want 4 0 && distinct want 4 0 ≡ t → Apart (cond (eqb (cond t 0 13) 0) want (replicate 4 0))
+    go true e a b l h q f = distinct-apart want 4 0 (and-right (small want 4 0) _ e) a b (omega arith) l (omega arith) q f
+    go false e a b l h q f = f (getD-replicate 4 a 0 0 (omega arith))
+
+-- ---- the slot of a station
+
+pub nowhere-at : {A : Type 0} {k : ℕ} → nowhere ≡ at k → A
+nowhere-at e = let z : _≡_ {A = ℕ} 0 1 = cc in absurd (omega arith)
+
+module _ (st : List ℕ) (s : ℕ) where
+  -- the first slot that has it is found
+  scan-is : (m i k : ℕ) → i ≤ k → k < i + m → getD st k 0 ≡ s → ((j : ℕ) → j < k → getD st j 0 ≡ s → ⊥) → scan st s m i ≡ at k
+  unfolding scan
+  scan-is zero i k l h q n = absurd (omega arith)
+  scan-is (suc m) i k l h q n = go (ℕ-discrete i k) (λ l′. scan-is m (suc i) k l′ (omega arith) q n)
+    where
+      go : Dec (i ≡ k) → (i < k → scan st s m (suc i) ≡ at k) → cond (eqb (getD st i 0) s) (at i) (scan st s m (suc i)) ≡ at k
+      go (yes e) ih = rw (e, eq-eqb (getD st k 0) s q)
+      go (no e) ih =
+          let l′ : i < k = omega arith in
+          rw (ne-eqb (getD st i 0) s (n i l′)) (ih l′)
+
+  -- what is found has it
+  scan-at : (m i k : ℕ) → scan st s m i ≡ at k → (k < i + m) × (getD st k 0 ≡ s)
+  unfolding scan
+  scan-at zero i k e = nowhere-at e
+  scan-at (suc m) i k e = go (eqb (getD st i 0) s) refl e (scan-at m (suc i) k)
+    where
+      go : (t : Bool) → eqb (getD st i 0) s ≡ t → cond t (at i) (scan st s m (suc i)) ≡ at k
+          → (scan st s m (suc i) ≡ at k → (k < suc i + m) × (getD st k 0 ≡ s)) → (k < i + suc m) × (getD st k 0 ≡ s)
+      go true et e′ ih = let z : k ≡ i = cc in rw z (omega arith, eqb-true _ s et)
+      go false et e′ ih = let (l, q) = ih e′ in (omega arith, q)
+
+pub slot-at : (st : List ℕ) (s k : ℕ) → slotOf st s ≡ at k → Fitted k st × (getD st k 0 ≡ s)
+unfolding slotOf
+slot-at st s k e = go (eqb s 0) refl e
+  where
+    go : (t : Bool) → eqb s 0 ≡ t → cond t nowhere (scan st s 4 0) ≡ at k → Fitted k st × (getD st k 0 ≡ s)
+    go true et e′ = nowhere-at e′
+    go false et e′ = let (l, q) = scan-at st s 4 0 k e′ in ((omega arith, λ z. eqb-false s 0 et (sym q ∙ z)), q)
+
+slot-own : (st : List ℕ) (k : ℕ) → Apart st → Fitted k st → slotOf st (getD st k 0) ≡ at k
+unfolding slotOf
+slot-own st k g f =
+    rw (ne-eqb (getD st k 0) 0 (f .1))
+    (scan-is st (getD st k 0) 4 0 k (omega arith) (omega arith) refl (λ j l q. g j k l (f .0) q (λ z. f .1 (sym q ∙ z))))
+
+-- ---- the slot that a decision concerns is fitted, and the call is addressed to its arm
+
+abbrev pub concerns : Decision → Slot
+concerns (turned n) = nowhere
+concerns (refused k s n q) = at k
+concerns (asked k s r) = at k
+concerns (sensed k p v) = at k
+
+body-concerns : (k s : ℕ) (j : Judged) → concerns (decideBody k s j) ≡ at k
+body-concerns k s (judged.Accepted r) = refl
+body-concerns k s (judged.Refused n q) = refl
+
+pub record For (k : ℕ) (st : List ℕ) (t : Bool) : Type 0 where
+  pub fitted : Fitted k st
+  pub addressed : t ≡ true
+
+module _ (st : List ℕ) (k : ℕ) where
+  frame-for : (o : Reading) → concerns (decideFrame st o) ≡ at k → For k st (eqb (o .number) 0 && eqb (o .station) (getD st k 0))
+  frame-for o e = go (eqb (o .number) 0) (slotOf st (o .station)) _ refl e
+    where
+      go : (t : Bool) (f : Slot) (n : ℕ) → slotOf st (o .station) ≡ f
+          → concerns (cond t (decideSlot (o .station) (o .body) f) (turned n)) ≡ at k
+          → For k st (t && eqb (o .station) (getD st k 0))
+      go false f n ef e′ = nowhere-at e′
+      go true nowhere n ef e′ = nowhere-at e′
+      go true (at j) n ef e′ =
+          let q : j ≡ k = cc (body-concerns j (o .station) (readBody (o .body))) in
+          let (f, w) = slot-at st (o .station) k (ef ∙ ap at q) in
+          record { fitted = f; addressed = eq-eqb (o .station) _ (sym w) }
+
+  pub concerned : (c : Call) → concerns (decide st c) ≡ at k → For k st (isFor k st c)
+  unfolding decide isFor
+  concerned (serve slice room) e = go (ltb room 64) refl e
+    where
+      go : (t : Bool) → ltb room 64 ≡ t → concerns (cond t (turned 1) (decideFrame st (readFrame slice))) ≡ at k
+          → For k st (leb 64 room && (eqb (readFrame slice .number) 0 && eqb (readFrame slice .station) (getD st k 0)))
+      go true et e′ = nowhere-at e′
+      go false et e′ = rw (le-leb 64 room (ltb-false room 64 et)) (frame-for (readFrame slice) e′)
+  concerned (input j p v) e = go (ltb 3 j) refl (eqb (getD st j 0) 0) refl (ltb 31 p) refl e
+    where
+      go : (t₁ : Bool) → ltb 3 j ≡ t₁ → (t₂ : Bool) → eqb (getD st j 0) 0 ≡ t₂ → (t₃ : Bool) → ltb 31 p ≡ t₃
+          → concerns (cond t₁ (turned 14) (cond t₂ (turned 14) (cond t₃ (turned 14) (sensed j p v)))) ≡ at k
+          → For k st (leb j 3 && (not (eqb (getD st j 0) 0) && (leb p 31 && eqb j k)))
+      go true e₁ t₂ e₂ t₃ e₃ e′ = nowhere-at e′
+      go false e₁ true e₂ t₃ e₃ e′ = nowhere-at e′
+      go false e₁ false e₂ true e₃ e′ = nowhere-at e′
+      go false e₁ false e₂ false e₃ e′ =
+          let q : j ≡ k = cc in
+          let l : j ≤ 3 = ltb-false 3 j e₁ in
+          record {
+            fitted = (omega arith, rw (← q) (eqb-false _ 0 e₂));
+            addressed = rw (le-leb j 3 l, e₂, le-leb p 31 (ltb-false 31 p e₃), eq-eqb j k q);
+          }
+
+-- ---- what is decided of a call that is addressed to slot k's arm
+
+abbrev pub heard : ℕ → List ℕ → Call → Decision
+heard k st (serve slice room) = decideBody k (getD st k 0) (readBody (readFrame slice .body))
+heard k st (input j p v) = sensed k p v
+
+pub decided : (st : List ℕ) (k : ℕ) (c : Call) → Apart st → Fitted k st → isFor k st c ≡ true → decide st c ≡ heard k st c
+unfolding decide isFor
+decided st k (serve slice room) g f e =
+    let o = readFrame slice in
+    let t = and-right (leb 64 room) _ e in
+    rw (
+      le-ltb room 64 (leb-true 64 room (and-left (leb 64 room) _ e)),
+      and-left (eqb (o .number) 0) _ t,
+      eqb-true (o .station) (getD st k 0) (and-right (eqb (o .number) 0) _ t),
+      slot-own st k g f,
+    )
+decided st k (input j p v) g f e =
+    let n : Bool = not (eqb (getD st j 0) 0) in
+    let t = and-right (leb j 3) _ e in
+    let u = and-right n _ t in
+    rw (
+      le-ltb 3 j (leb-true j 3 (and-left (leb j 3) _ e)),
+      not-true (eqb (getD st j 0) 0) (and-left n _ t),
+      le-ltb 31 p (leb-true p 31 (and-left (leb p 31) _ u)),
+      eqb-true j k (and-right (leb p 31) _ u),
+    )

@@ -1,0 +1,136 @@
+-- `f` is where the frame was read, `l` where its station was looked up, and `b` where its body was served.
+use Prim.Native.Nat.{ℕ, _<_, _≤_}
+use mathlib.Core.Path.{_≡_, refl, sym, _∙_}
+use mathlib.Core.List.{List}
+use native.Mathlib.Omega.{arith}
+use borrow.Author.Needs.{needs}
+use borrow.Author.Tests.{lt-ltb, le-ltb, eq-eqb, ne-eqb}
+use lib.ListN.{length}
+use Rattle.frame.specs.Frame.{Read, readFrame}
+use Rattle.harl.specs.declared.message.Sent.{Sent}
+use Rattle.tables.specs.Tables.{Tables}
+use Rattle.gateway.specs.declared.serve.Found.the-variants as found
+use Rattle.gateway.specs.Call.{serve}
+use Rattle.gateway.specs.Box.{Slot, nowhere, at, slotOf, turned, decide, perform, respond, after, answer}
+use Rattle.gateway.specs.Entries.{box, asFound, foundIn, decided, BodyServed, Served}
+use Rattle.gateway.proofs.Slots.{slot-at}
+use Rattle.gateway.proofs.serve.serve.Statement.{statement}
+use Rattle.gateway.proofs.serve.serve.Tie as tie
+
+-- ---- where a station was found
+
+found-at : (f : Slot) (k : ℕ) → asFound f ≡ found.At k → f ≡ at k
+found-at nowhere k e = let z : _≡_ {A = ℕ} 0 1 = cc in absurd (omega arith)
+found-at (at j) k e = cc
+
+found-none : (f : Slot) → asFound f ≡ found.Nowhere → f ≡ nowhere
+found-none nowhere e = refl
+found-none (at j) e = let z : _≡_ {A = ℕ} 0 1 = cc in absurd (omega arith)
+
+within : (st : List ℕ) (s k : ℕ) → foundIn st s ≡ found.At k → k < 4
+within st s k e = slot-at st s k (found-at (slotOf st s) k e) .0 .0
+
+-- ---- what is decided
+
+no-room : (st slice : List ℕ) (room : ℕ) → room < 64 → decide st (serve slice room) ≡ turned 1
+unfolding decide
+no-room st slice room h = rw (lt-ltb room 64 h)
+
+module _ (st slice : List ℕ) (room : ℕ) (h : 64 ≤ room) {n s : ℕ} {body : List ℕ} (r : Read (readFrame slice) n s body) where
+  unread : (n ≡ 0 → ⊥) → decide st (serve slice room) ≡ turned n
+  unfolding decide
+  unread z = rw (le-ltb room 64 h, ← r .number-is, ne-eqb n 0 z)
+
+  absent : n ≡ 0 → foundIn st s ≡ found.Nowhere → decide st (serve slice room) ≡ turned 8
+  unfolding decide
+  absent z e = rw (le-ltb room 64 h, ← r .number-is, eq-eqb n 0 z, ← r .station-is, found-none (slotOf st s) e)
+
+  present : n ≡ 0 → (k : ℕ) → foundIn st s ≡ found.At k → decide st (serve slice room) ≡ decided k s body
+  unfolding decide
+  present z k e = rw (le-ltb room 64 h, ← r .number-is, eq-eqb n 0 z, ← r .station-is, ← r .body-is, found-at (slotOf st s) k e)
+
+-- ---- what is served
+
+module _ {st slice xs : List ℕ} {t : Tables} where
+  turned-served : {n : ℕ} → decide st (serve slice (length xs)) ≡ turned n → Served (box st t) slice xs (record { number = n; length = 0 }) t xs
+  unfolding answer after perform respond
+  turned-served e =
+      record {
+        answer-is = rw e (record { number-is = refl; length-is = refl; area-is = refl });
+        tables-are = rw e;
+      }
+
+  body-served : {k s : ℕ} {body ys : List ℕ} {sent : Sent} {t′ : Tables} → decide st (serve slice (length xs)) ≡ decided k s body → BodyServed k s body t xs sent t′ ys → Served (box st t) slice xs sent t′ ys
+  unfolding answer after perform
+  body-served e b = record { answer-is = rw e (b .answer-is st); tables-are = rw e (b .tables-are) }
+
+returns : tie.Need-returns
+returns c =
+    let a = c .before .before .before .args in
+    turned-served (no-room (a .stations .now) (a .slice .now) (length (a .reply .now)) (c .if1 .taken))
+
+read-frame-requires : tie.Need-read-frame-requires
+read-frame-requires c κs = search needs
+
+returns-2 : tie.Need-returns-2
+returns-2 c =
+    let f = c .before in
+    let i = f .before .before .before in
+    let a = i .before .before .before .args in
+    turned-served (unread (a .stations .now) (a .slice .now) (length (a .reply .now)) (i .if1 .left) (f .read-frame .ensures) (c .if2 .taken))
+
+find-slot-requires : tie.Need-find-slot-requires
+find-slot-requires c κs = search needs
+
+enum-known-found : tie.Need-enum-known-found
+enum-known-found c = search needs
+
+serve-body-requires : tie.Need-serve-body-requires
+serve-body-requires c κs =
+    let p = c .before .before .before .before .before .before .before .before .before in
+    let l = p .before .before in
+    let f = l .before .before in
+    let i = f .before .before .before in
+    let a = i .before .before .before .args in
+    (within (a .stations .now) (f .read-frame .last .1 .1 .0) (p .found .given .0 .0) (sym (l .find-slot .ensures) ∙ p .found .given .1), i .if1 .left)
+
+enum-told : tie.Need-enum-told
+enum-told c = search needs
+
+same-length : tie.Need-same-length
+same-length c = search needs
+
+returns-3 : tie.Need-returns-3
+returns-3 c =
+    let b = c .before .before in
+    let p = b .before .before .before .before .before .before .before .before .before .before in
+    let l = p .before .before in
+    let f = l .before .before in
+    let i = f .before .before .before in
+    let a = i .before .before .before .args in
+    body-served
+    (present (a .stations .now) (a .slice .now) (length (a .reply .now)) (i .if1 .left) (f .read-frame .ensures) (l .before .if2 .left) (p .found .given .0 .0) (sym (l .find-slot .ensures) ∙ p .found .given .1))
+    (b .serve-body .ensures)
+
+returns-4 : tie.Need-returns-4
+returns-4 c =
+    let l = c .before .before in
+    let f = l .before .before in
+    let i = f .before .before .before in
+    let a = i .before .before .before .args in
+    turned-served (absent (a .stations .now) (a .slice .now) (length (a .reply .now)) (i .if1 .left) (f .read-frame .ensures) (l .before .if2 .left) (sym (l .find-slot .ensures) ∙ c .enum-told .given .1))
+
+pub serve-spec : {M : Type 1} → statement M
+serve-spec =
+    tie.close
+    (tie.spec
+    returns
+    read-frame-requires
+    returns-2
+    find-slot-requires
+    enum-known-found
+    serve-body-requires
+    enum-told
+    same-length
+    returns-3
+    returns-4)

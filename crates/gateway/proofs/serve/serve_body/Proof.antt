@@ -1,0 +1,110 @@
+-- `b` is where the body was read, `v` what it was judged, `p` where the request was performed, and `w` where the reply was put.
+use Prim.Native.Nat.{ℕ}
+use mathlib.Core.Path.{_≡_, refl, sym, _∙_}
+use mathlib.Core.Bool.{Bool, true}
+use mathlib.Core.List.{List}
+use native.Mathlib.Omega.{arith}
+use borrow.Author.Needs.{needs}
+use Rattle.text.specs.Put.{Put}
+use Rattle.text.specs.Whole.{place}
+use Rattle.frame.specs.Frame.{frameOf}
+use Rattle.commands.specs.declared.request.Request.{Request}
+use Rattle.commands.specs.declared.request.Request.the-variants as request
+use Rattle.harl.specs.declared.body.Judged.the-variants.{Accepted, Refused}
+use Rattle.harl.specs.declared.reply.Outcome.{Outcome}
+use Rattle.harl.specs.Body.{readBody}
+use Rattle.harl.specs.Reply.{statusText, doneText, refusalText}
+use Rattle.tables.specs.Tables.{Tables, performed, answered, Performed}
+use Rattle.gateway.specs.Box.{asked, performTables, respond}
+use Rattle.gateway.specs.Entries.{box, Given, repliedText, BodyServed}
+use Rattle.gateway.proofs.Accepted.{accepted-in-range}
+use Rattle.gateway.proofs.serve.serve_body.Statement.{statement}
+use Rattle.gateway.proofs.serve.serve_body.Tie as tie
+
+-- what was put at the front of the area is the reply
+put-given : {n r : ℕ} {bytes xs ys : List ℕ} → Put xs 0 bytes r ys → Given (record { number = n; reply = bytes }) xs (record { number = n; length = r }) ys
+put-given p = record { number-is = refl; length-is = omega (arith, p .next); area-is = p .area }
+
+done-is : statusText true 0 ≡ doneText
+unfolding statusText place
+done-is = refl
+
+-- a request is answered with what performing it answers
+asked-answer : (st : List ℕ) (t : Tables) (k s : ℕ) (r : Request) → respond (box st t) (asked k s r) ≡ record { number = 0; reply = frameOf s (repliedText (answered k r t)) }
+unfolding respond
+asked-answer st t k s (request.Load l) = refl
+asked-answer st t k s (request.Store q) = rw done-is
+
+asked-tables : (t : Tables) (k s : ℕ) (r : Request) → performTables t (asked k s r) ≡ performed k r t
+asked-tables t k s (request.Load l) = refl
+asked-tables t k s (request.Store q) = refl
+
+module _ {k s : ℕ} {body : List ℕ} {t : Tables} {xs ys : List ℕ} {m : ℕ} where
+  asked-served : {r : Request} {o : Outcome} {t′ : Tables} → readBody body ≡ Accepted r → Performed k r t t′ o → Put xs 0 (frameOf s (repliedText o)) m ys → BodyServed k s body t xs (record { number = 0; length = m }) t′ ys
+  asked-served {r} e p w =
+      record {
+        answer-is = λ st. rw (e, asked-answer st t k s r, ← p .answer) (put-given w);
+        tables-are = rw (e, asked-tables t k s r) (p .tables);
+      }
+
+  refused-served : {n : ℕ} {store : Bool} → readBody body ≡ Refused n store → Put xs 0 (frameOf s (refusalText n store)) m ys → BodyServed k s body t xs (record { number = n; length = m }) t ys
+  unfolding respond
+  refused-served e w = record { answer-is = λ st. rw e (put-given w); tables-are = rw e }
+
+read-body-requires : tie.Need-read-body-requires
+read-body-requires c κs = search needs
+
+enum-known-judged : tie.Need-enum-known-judged
+enum-known-judged c = search needs
+
+perform-requires : tie.Need-perform-requires
+perform-requires c κs =
+    let v = c .before .before .before .before .before .before .before .before in
+    let b = v .before .before in
+    let a = b .before .before .before in
+    (a .pre .0, accepted-in-range (a .args .body .now) (v .judged .given .0 .0) (sym (b .read-body .ensures) ∙ v .judged .given .1))
+
+put-reply-requires : tie.Need-put-reply-requires
+put-reply-requires c κs = search needs
+
+enum-known-judged-2 : tie.Need-enum-known-judged-2
+enum-known-judged-2 c = search needs
+
+put-refused-requires : tie.Need-put-refused-requires
+put-refused-requires c κs = search needs
+
+same-length : tie.Need-same-length
+same-length c = search needs
+
+returns : tie.Need-returns
+returns c =
+    let w = c .before .before in
+    let p = w .before .before in
+    let v = p .before .before .before .before .before .before .before .before .before in
+    let b = v .before .before in
+    asked-served (sym (b .read-body .ensures) ∙ v .judged .given .1) (p .perform .ensures) (w .put-reply .ensures)
+
+same-length-2 : tie.Need-same-length-2
+same-length-2 c = search needs
+
+returns-2 : tie.Need-returns-2
+returns-2 c =
+    let w = c .before .before in
+    let v = w .before .before .before in
+    let b = v .before .before in
+    refused-served (sym (b .read-body .ensures) ∙ v .judged2 .given .1) (w .put-refused .ensures)
+
+pub serve-body-spec : {M : Type 1} → statement M
+serve-body-spec =
+    tie.close
+    (tie.spec
+    read-body-requires
+    enum-known-judged
+    perform-requires
+    put-reply-requires
+    enum-known-judged-2
+    put-refused-requires
+    same-length
+    returns
+    same-length-2
+    returns-2)

@@ -1,0 +1,124 @@
+-- The box (document 01's term for the gateway with its tables): four slots, their stations and tables, and
+-- what a call does. `decide` makes every test, from the call and the stations alone; `perform` and `respond`
+-- go by its cases and make none.
+use Prim.Native.Nat.{ℕ, zero, suc}
+use mathlib.Core.Bool.{Bool, true, cond, not, _&&_, _||_}
+use mathlib.Core.List.{List, [], _∷_}
+use lib.ListN.{getD, replicate}
+use lib.Dec.{ltb, leb, eqb}
+use Rattle.frame.specs.Frame.{Reading, readFrame, frameOf}
+use Rattle.commands.specs.declared.request.Request.{Request}
+use Rattle.commands.specs.declared.request.Request.the-variants as request
+use Rattle.harl.specs.declared.body.Judged.{Judged}
+use Rattle.harl.specs.declared.body.Judged.the-variants as judged
+use Rattle.harl.specs.Body.{readBody}
+use Rattle.harl.specs.Reply.{contentOf, contentText, refusalText, doneText}
+use Rattle.tables.specs.Tables.{Tables, withInputs, set2, loaded, stored, zeros}
+use Rattle.gateway.specs.Call.{Call, serve, input, Answer, silent}
+
+-- a station of 0 leaves its slot unfitted
+pub record Box : Type 0 where
+  pub stations : List ℕ
+  pub tables : Tables
+
+-- ---- setup
+
+-- of the m slots from i on: none has the station s
+unfoldable pub lacks : List ℕ → ℕ → ℕ → ℕ → Bool
+lacks st s zero i = true
+lacks st s (suc m) i = not (eqb (getD st i 0) s) && lacks st s m (suc i)
+
+-- no nonzero station stands twice
+unfoldable pub distinct : List ℕ → ℕ → ℕ → Bool
+distinct st zero i = true
+distinct st (suc m) i = (eqb (getD st i 0) 0 || lacks st (getD st i 0) m (suc i)) && distinct st m (suc i)
+
+-- no station is above 99
+unfoldable pub small : List ℕ → ℕ → ℕ → Bool
+small st zero i = true
+small st (suc m) i = leb (getD st i 0) 99 && small st m (suc i)
+
+-- 13 SETUP: a station above 99, or one nonzero station twice
+unfoldable pub setupNumber : List ℕ → ℕ
+setupNumber want = cond (small want 4 0 && distinct want 4 0) 0 13
+
+-- the box that setup yields, with every table zero; refused, with no arm fitted
+unfoldable pub setup : List ℕ → Box
+setup want = record { stations = cond (eqb (setupNumber want) 0) want (replicate 4 0); tables = zeros }
+
+-- ---- what is decided of a call
+
+-- the first slot that has a station
+pub data Slot : Type 0 where
+  nowhere : Slot
+  at : ℕ → Slot
+
+-- of the m slots from i on
+unfoldable pub scan : List ℕ → ℕ → ℕ → ℕ → Slot
+scan st s zero i = nowhere
+scan st s (suc m) i = cond (eqb (getD st i 0) s) (at i) (scan st s m (suc i))
+
+unfoldable pub slotOf : List ℕ → ℕ → Slot
+slotOf st s = cond (eqb s 0) nowhere (scan st s 4 0)
+
+-- turned: refused with no reply. refused: slot, station, number, whether the name is an SN's. asked: slot,
+-- station, request. sensed: slot, input port, byte
+pub data Decision : Type 0 where
+  turned : ℕ → Decision
+  refused : ℕ → ℕ → ℕ → Bool → Decision
+  asked : ℕ → ℕ → Request → Decision
+  sensed : ℕ → ℕ → ℕ → Decision
+
+-- 9 to 12
+abbrev pub decideBody : ℕ → ℕ → Judged → Decision
+decideBody k s (judged.Accepted r) = asked k s r
+decideBody k s (judged.Refused n store) = refused k s n store
+
+-- 8 ABSENT
+abbrev pub decideSlot : ℕ → List ℕ → Slot → Decision
+decideSlot s body nowhere = turned 8
+decideSlot s body (at k) = decideBody k s (readBody body)
+
+-- 2 to 7
+abbrev pub decideFrame : List ℕ → Reading → Decision
+decideFrame st o = cond (eqb (o .number) 0) (decideSlot (o .station) (o .body) (slotOf st (o .station))) (turned (o .number))
+
+-- 1 ROOM, then those; 14 INPUT
+unfoldable pub decide : List ℕ → Call → Decision
+decide st (serve slice room) = cond (ltb room 64) (turned 1) (decideFrame st (readFrame slice))
+decide st (input k port byte) =
+    cond (ltb 3 k) (turned 14)
+    (cond (eqb (getD st k 0) 0) (turned 14)
+    (cond (ltb 31 port) (turned 14) (sensed k port byte)))
+
+-- ---- what is done and answered
+
+abbrev pub performTables : Tables → Decision → Tables
+performTables t (turned n) = t
+performTables t (refused k s n store) = t
+performTables t (asked k s (request.Load l)) = t
+performTables t (asked k s (request.Store q)) = stored k q t
+performTables t (sensed k p v) = withInputs t (set2 (t .inputs) k p v)
+
+unfoldable pub perform : Box → Decision → Box
+perform b d = record { stations = b .stations; tables = performTables (b .tables) d }
+
+unfoldable pub respond : Box → Decision → Answer
+respond b (turned n) = silent n
+respond b (refused k s n store) = record { number = n; reply = frameOf s (refusalText n store) }
+respond b (asked k s (request.Load l)) =
+    record { number = 0; reply = frameOf s (contentText (contentOf (loaded k l (b .tables)))) }
+respond b (asked k s (request.Store q)) = record { number = 0; reply = frameOf s doneText }
+respond b (sensed k p v) = silent 0
+
+-- the box that a call leaves, and its answer
+unfoldable pub after : Box → Call → Box
+after b c = perform b (decide (b .stations) c)
+
+unfoldable pub answer : Box → Call → Answer
+answer b c = respond b (decide (b .stations) c)
+
+-- a list of calls, each given the box as the last one left it
+unfoldable pub run : Box → List Call → Box
+run b [] = b
+run b (c ∷ cs) = run (after b c) cs

@@ -1,0 +1,17 @@
+-- The calls of the box and their answers.
+use Prim.Native.Nat.{ℕ}
+use mathlib.Core.List.{List, []}
+
+-- serve: a slice, and the length of the reply area; input: a slot, an input port and a byte
+pub data Call : Type 0 where
+  serve : List ℕ → ℕ → Call
+  input : ℕ → ℕ → ℕ → Call
+
+-- the refusal number, 0 for none, and the bytes of the reply, none where there is no reply
+pub record Answer : Type 0 where
+  pub number : ℕ
+  pub reply : List ℕ
+
+-- no reply
+abbrev pub silent : ℕ → Answer
+silent n = record { number = n; reply = [] }

@@ -1,0 +1,26 @@
+-- Demand 3, one statement about a whole list of calls (proved in proofs/Isolation.antt).
+use Prim.Native.Nat.{ℕ}
+use mathlib.Core.Path.{_≡_}
+use mathlib.Core.Bool.{false}
+use mathlib.Core.List.{List}
+use lib.ListN.{getD}
+use Rattle.gateway.specs.Call.{Call}
+use Rattle.gateway.specs.Box.{Box, setup, after, run}
+use Rattle.gateway.specs.Lone.{blank, runLone, answersLone}
+use Rattle.gateway.specs.Addressed.{Fitted, isFor, eventsFor, answersTo, armOf}
+
+-- the arm of slot k goes as the lone box that has its station and is fed its calls alone
+pub record Isolated (b : Box) (k : ℕ) (cs : List Call) : Type 0 where
+  pub tables : armOf k (run b cs) ≡ runLone (getD (b .stations) k 0) blank (eventsFor k (b .stations) cs)
+  pub answers : answersTo k b cs ≡ answersLone (getD (b .stations) k 0) blank (eventsFor k (b .stations) cs)
+
+-- for the numbers given to setup, accepted or refused, and any list of calls
+pub record Demand3 (want : List ℕ) (cs : List Call) : Type 0 where
+  -- each fitted arm's tables and answers are those of its lone box
+  pub alone : (k : ℕ) → Fitted k (setup want .stations) → Isolated (setup want) k cs
+  -- a further call that is addressed to no arm changes no table
+  pub quiet : (c : Call)
+      → ((k : ℕ) → Fitted k (setup want .stations) → isFor k (setup want .stations) c ≡ false)
+      → after (run (setup want) cs) c .tables ≡ run (setup want) cs .tables
+  -- the stations stay as setup left them
+  pub stations : run (setup want) cs .stations ≡ setup want .stations

@@ -1,0 +1,65 @@
+-- What the entries promise: every answer is the model's.
+use Prim.Native.Nat.{ℕ}
+use mathlib.Core.Path.{_≡_}
+use mathlib.Core.List.{List}
+use lib.ListN.{length}
+use lib.Seq.{sets}
+use Rattle.harl.specs.declared.message.Sent.{Sent}
+use Rattle.harl.specs.declared.reply.Outcome.{Outcome}
+use Rattle.harl.specs.declared.reply.Outcome.the-variants as outcome
+use Rattle.harl.specs.Body.{readBody}
+use Rattle.harl.specs.Reply.{contentOf, contentText, statusText}
+use Rattle.tables.specs.Tables.{Tables}
+use mathlib.Core.Bool.{true}
+use Rattle.gateway.specs.declared.serve.Found.{Found}
+use Rattle.gateway.specs.declared.serve.Found.the-variants as found
+use Rattle.gateway.specs.Call.{serve, input, Answer}
+use Rattle.gateway.specs.Box.{Box, Slot, nowhere, at, slotOf, Decision, decideBody, performTables, respond, setupNumber, setup, after, answer}
+
+-- the box that lent stations and tables are
+abbrev pub box : List ℕ → Tables → Box
+box st t = record { stations = st; tables = t }
+
+-- setup: the number, the stations and every table
+pub record SetUp (want : List ℕ) (number : ℕ) (st : List ℕ) (t : Tables) : Type 0 where
+  pub number-is : number ≡ setupNumber want
+  pub stations-are : st ≡ setup want .stations
+  pub tables-are : t ≡ setup want .tables
+
+-- an input call: the number and every table
+pub record Sensed (b : Box) (slot port byte : ℕ) (number : ℕ) (t : Tables) : Type 0 where
+  pub number-is : number ≡ answer b (input slot port byte) .number
+  pub tables-are : t ≡ after b (input slot port byte) .tables
+
+-- an answer given: the number, the length, and the area, untouched past the reply
+pub record Given (a : Answer) (before : List ℕ) (sent : Sent) (later : List ℕ) : Type 0 where
+  pub number-is : sent .number ≡ a .number
+  pub length-is : sent .length ≡ length (a .reply)
+  pub area-is : later ≡ sets before 0 (a .reply)
+
+-- a serving call: the answer and every table
+pub record Served (b : Box) (slice before : List ℕ) (sent : Sent) (t : Tables) (later : List ℕ) : Type 0 where
+  pub answer-is : Given (answer b (serve slice (length before))) before sent later
+  pub tables-are : t ≡ after b (serve slice (length before)) .tables
+
+-- ---- what is used on the way
+
+abbrev pub asFound : Slot → Found
+asFound nowhere = found.Nowhere
+asFound (at k) = found.At k
+
+abbrev pub foundIn : List ℕ → ℕ → Found
+foundIn st s = asFound (slotOf st s)
+
+-- the body of the reply to a request that was performed
+abbrev pub repliedText : Outcome → List ℕ
+repliedText (outcome.Data d) = contentText (contentOf d)
+repliedText (outcome.Status n) = statusText true n
+
+-- what is decided of a body that is addressed to slot k
+abbrev pub decided : ℕ → ℕ → List ℕ → Decision
+decided k s body = decideBody k s (readBody body)
+
+pub record BodyServed (k s : ℕ) (body : List ℕ) (t : Tables) (before : List ℕ) (sent : Sent) (t′ : Tables) (later : List ℕ) : Type 0 where
+  pub answer-is : (st : List ℕ) → Given (respond (box st t) (decided k s body)) before sent later
+  pub tables-are : t′ ≡ performTables t (decided k s body)

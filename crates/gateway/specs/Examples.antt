@@ -1,0 +1,107 @@
+-- Runs of the box, call by call, with the answers expected.
+use Prim.Native.Nat.{ℕ}
+use mathlib.Core.Path.{_≡_}
+use mathlib.Core.List.{List, [], _∷_, _++_, map}
+use Rattle.frame.specs.Frame.{frameOf}
+use Rattle.gateway.specs.Call.{Call, serve, input, Answer, silent}
+use Rattle.gateway.specs.Box.{Box, setupNumber, setup, after, answer}
+
+-- a call and its answer
+pub record Turn : Type 0 where
+  pub call : Call
+  pub answer : Answer
+
+-- the numbers given to setup, the number that it gives, and the calls after it
+pub record Run : Type 0 where
+  pub want : List ℕ
+  pub number : ℕ
+  pub turns : List Turn
+
+-- the same calls, with the answers that the box gives
+unfoldable pub answered : Box → List Turn → List Turn
+answered b [] = []
+answered b (t ∷ ts) = record { call = t .call; answer = answer b (t .call) } ∷ answered (after b (t .call)) ts
+
+-- the same run, as the box goes through it
+abbrev pub gone : Run → Run
+gone r = record { want = r .want; number = setupNumber (r .want); turns = answered (setup (r .want)) (r .turns) }
+
+-- a request to a station, the number given, and the body of the reply
+abbrev pub asks : ℕ → List ℕ → ℕ → List ℕ → Turn
+asks s body n reply = record { call = serve (frameOf s body) 64; answer = record { number = n; reply = frameOf s reply } }
+
+-- a call that has no reply, and the number given
+abbrev pub gives : Call → ℕ → Turn
+gives c n = record { call = c; answer = silent n }
+
+-- LND 5
+abbrev pub lnd : List ℕ
+lnd = 76 ∷ 78 ∷ 68 ∷ 32 ∷ 53 ∷ []
+
+-- arm 2 has a register 5 of its own
+abbrev pub registers : List Turn
+registers =
+    -- SND 5 0042: 00
+    asks 1 (83 ∷ 78 ∷ 68 ∷ 32 ∷ 53 ∷ 32 ∷ 48 ∷ 48 ∷ 52 ∷ 50 ∷ []) 0 (48 ∷ 48 ∷ []) ∷
+    -- LND 5: 0000
+    asks 2 lnd 0 (48 ∷ 48 ∷ 48 ∷ 48 ∷ []) ∷
+    -- LND 5: 0042
+    asks 1 lnd 0 (48 ∷ 48 ∷ 52 ∷ 50 ∷ []) ∷
+    []
+
+-- row 99 of arm 1 is followed by no other, and a refused SNL leaves no half of a row
+abbrev pub rows : List Turn
+rows =
+    -- SNL 99 -9999.99 0.05: 00
+    asks 1 (83 ∷ 78 ∷ 76 ∷ 32 ∷ 57 ∷ 57 ∷ 32 ∷ 45 ∷ 57 ∷ 57 ∷ 57 ∷ 57 ∷ 46 ∷ 57 ∷ 57 ∷ 32 ∷ 48 ∷ 46 ∷ 48 ∷ 53 ∷ [])
+    0 (48 ∷ 48 ∷ []) ∷
+    -- LNL 0: 0.00 0.00
+    asks 2 (76 ∷ 78 ∷ 76 ∷ 32 ∷ 48 ∷ []) 0 (48 ∷ 46 ∷ 48 ∷ 48 ∷ 32 ∷ 48 ∷ 46 ∷ 48 ∷ 48 ∷ []) ∷
+    -- SNL 99 1 10000: 10
+    asks 1 (83 ∷ 78 ∷ 76 ∷ 32 ∷ 57 ∷ 57 ∷ 32 ∷ 49 ∷ 32 ∷ 49 ∷ 48 ∷ 48 ∷ 48 ∷ 48 ∷ []) 10 (49 ∷ 48 ∷ []) ∷
+    -- LNL 99: -9999.99 0.05
+    asks 1 (76 ∷ 78 ∷ 76 ∷ 32 ∷ 57 ∷ 57 ∷ []) 0 (45 ∷ 57 ∷ 57 ∷ 57 ∷ 57 ∷ 46 ∷ 57 ∷ 57 ∷ 32 ∷ 48 ∷ 46 ∷ 48 ∷ 53 ∷ []) ∷
+    -- SNL 100 1 2: 11
+    asks 1 (83 ∷ 78 ∷ 76 ∷ 32 ∷ 49 ∷ 48 ∷ 48 ∷ 32 ∷ 49 ∷ 32 ∷ 50 ∷ []) 11 (49 ∷ 49 ∷ []) ∷
+    -- LNL 100: E11
+    asks 1 (76 ∷ 78 ∷ 76 ∷ 32 ∷ 49 ∷ 48 ∷ 48 ∷ []) 11 (69 ∷ 49 ∷ 49 ∷ []) ∷
+    []
+
+-- slot 2 has arm 3; a signal is a bit of its port
+abbrev pub ports : List Turn
+ports =
+    gives (input 2 31 200) 0 ∷
+    -- LNID 31: 200
+    asks 3 (76 ∷ 78 ∷ 73 ∷ 68 ∷ 32 ∷ 51 ∷ 49 ∷ []) 0 (50 ∷ 48 ∷ 48 ∷ []) ∷
+    -- SNOB 255 1: 00
+    asks 4 (83 ∷ 78 ∷ 79 ∷ 66 ∷ 32 ∷ 50 ∷ 53 ∷ 53 ∷ 32 ∷ 49 ∷ []) 0 (48 ∷ 48 ∷ []) ∷
+    -- LNOD 31: 128
+    asks 4 (76 ∷ 78 ∷ 79 ∷ 68 ∷ 32 ∷ 51 ∷ 49 ∷ []) 0 (49 ∷ 50 ∷ 56 ∷ []) ∷
+    -- SNBB 272 1: 00
+    asks 4 (83 ∷ 78 ∷ 66 ∷ 66 ∷ 32 ∷ 50 ∷ 55 ∷ 50 ∷ 32 ∷ 49 ∷ []) 0 (48 ∷ 48 ∷ []) ∷
+    -- LNBD 2: 1
+    asks 4 (76 ∷ 78 ∷ 66 ∷ 68 ∷ 32 ∷ 50 ∷ []) 0 (49 ∷ []) ∷
+    []
+
+-- no reply: station 9 is absent, which is judged after its LRC; a room of 63 bytes; no slot 4; no port 32
+abbrev pub unheard : List Turn
+unheard =
+    gives (serve (frameOf 9 lnd) 64) 8 ∷
+    gives (serve (2 ∷ 57 ∷ 32 ∷ (lnd ++ (3 ∷ 0 ∷ []))) 64) 5 ∷
+    gives (serve (frameOf 1 lnd) 63) 1 ∷
+    gives (input 4 0 1) 14 ∷
+    gives (input 0 32 1) 14 ∷
+    []
+
+-- four arms; station 1 twice, so that no arm is fitted; a station above 99; one arm, in slot 1
+abbrev pub runs : List Run
+runs =
+    record { want = 1 ∷ 2 ∷ 3 ∷ 4 ∷ []; number = 0; turns = registers ++ (rows ++ (ports ++ unheard)) } ∷
+    record { want = 1 ∷ 2 ∷ 1 ∷ 0 ∷ []; number = 13; turns = gives (serve (frameOf 1 lnd) 64) 8 ∷ gives (input 0 0 1) 14 ∷ [] } ∷
+    record { want = 100 ∷ 0 ∷ 0 ∷ 0 ∷ []; number = 13; turns = [] } ∷
+    record { want = 0 ∷ 7 ∷ 0 ∷ 0 ∷ []; number = 0; turns = gives (input 0 0 1) 14 ∷ gives (input 1 0 1) 0 ∷ [] } ∷
+    []
+
+-- the box goes through every run as it stands here (proved in proofs/Runs.antt)
+abbrev pub Runs : Type 0
+Runs = map gone runs ≡ runs

@@ -1,0 +1,128 @@
+-- The lone box (document 01, "Demand 3's list and the lone box"): one arm with its own tables. It is fed the
+-- calls addressed to that arm. It shares with the box only the reading of frames and requests and the
+-- forming of replies.
+use Prim.Native.Nat.{ℕ, _-_, _/_, _%_}
+use mathlib.Core.List.{List, [], _∷_}
+use lib.ListN.{getD, set, replicate}
+use lib.IntN.{ℤ, pos, natAbs}
+use Rattle.frame.specs.Frame.{readFrame, frameOf}
+use Rattle.commands.specs.declared.request.Load.{Load}
+use Rattle.commands.specs.declared.request.Load.the-variants as load
+use Rattle.commands.specs.declared.request.Store.{Store}
+use Rattle.commands.specs.declared.request.Store.the-variants as store
+use Rattle.commands.specs.declared.request.Request.{Request}
+use Rattle.commands.specs.declared.request.Request.the-variants as request
+use Rattle.harl.specs.declared.body.Judged.{Judged}
+use Rattle.harl.specs.declared.body.Judged.the-variants as judged
+use Rattle.harl.specs.declared.reply.Data.{Data}
+use Rattle.harl.specs.declared.reply.Data.the-variants as held
+use Rattle.harl.specs.Body.{readBody}
+use Rattle.harl.specs.Reply.{contentOf, contentText, refusalText, doneText}
+use Rattle.tables.specs.Bits.{bit, withBit}
+use Rattle.gateway.specs.Call.{Answer, silent}
+
+-- 16 timers, 64 registers, 100 rows, 32 input, 32 output and 16 memory ports
+pub record Arm : Type 0 where
+  pub timers : List ℕ
+  pub registers : List ℕ
+  pub x : List ℤ
+  pub y : List ℤ
+  pub inputs : List ℕ
+  pub outputs : List ℕ
+  pub memory : List ℕ
+
+-- all zero at first
+unfoldable pub blank : Arm
+blank =
+    record {
+      timers = replicate 16 0;
+      registers = replicate 64 0;
+      x = replicate 100 (pos 0);
+      y = replicate 100 (pos 0);
+      inputs = replicate 32 0;
+      outputs = replicate 32 0;
+      memory = replicate 16 0;
+    }
+
+-- a serving call's slice; an input call's port and byte
+pub data Event : Type 0 where
+  frameIn : List ℕ → Event
+  portIn : ℕ → ℕ → Event
+
+-- a signal is bit n % 8 of port n / 8
+abbrev pub signal : List ℕ → ℕ → ℕ
+signal ports n = bit (getD ports (n / 8) 0) (n % 8)
+
+abbrev pub withSignal : List ℕ → ℕ → ℕ → List ℕ
+withSignal ports n v = set ports (n / 8) (withBit (getD ports (n / 8) 0) (n % 8) v)
+
+-- the data held under a number
+unfoldable pub holds : Arm → Load → Data
+holds a (load.Timer n) = held.Timer (pos (getD (a .timers) n 0))
+holds a (load.Register n) = held.Register (pos (getD (a .registers) n 0))
+holds a (load.Row n) = held.Row (record { x = getD (a .x) n (pos 0); y = getD (a .y) n (pos 0) })
+holds a (load.Input g) = held.Signal (pos (signal (a .inputs) (g .0)))
+holds a (load.InputPort p) = held.Port (pos (getD (a .inputs) (p .0) 0))
+holds a (load.Output g) = held.Signal (pos (signal (a .outputs) (g .0)))
+holds a (load.OutputPort p) = held.Port (pos (getD (a .outputs) (p .0) 0))
+holds a (load.MemoryBit g) = held.Signal (pos (signal (a .memory) (g .0 - 256)))
+holds a (load.MemoryPort p) = held.Port (pos (getD (a .memory) (p .0) 0))
+
+-- an arm with one table replaced
+abbrev pub withTimers : Arm → List ℕ → Arm
+withTimers a t = record { timers = t; registers = a .registers; x = a .x; y = a .y; inputs = a .inputs; outputs = a .outputs; memory = a .memory }
+
+abbrev pub withRegisters : Arm → List ℕ → Arm
+withRegisters a t = record { timers = a .timers; registers = t; x = a .x; y = a .y; inputs = a .inputs; outputs = a .outputs; memory = a .memory }
+
+abbrev pub withRows : Arm → List ℤ → List ℤ → Arm
+withRows a tx ty = record { timers = a .timers; registers = a .registers; x = tx; y = ty; inputs = a .inputs; outputs = a .outputs; memory = a .memory }
+
+abbrev pub withInputs : Arm → List ℕ → Arm
+withInputs a t = record { timers = a .timers; registers = a .registers; x = a .x; y = a .y; inputs = t; outputs = a .outputs; memory = a .memory }
+
+abbrev pub withOutputs : Arm → List ℕ → Arm
+withOutputs a t = record { timers = a .timers; registers = a .registers; x = a .x; y = a .y; inputs = a .inputs; outputs = t; memory = a .memory }
+
+abbrev pub withMemory : Arm → List ℕ → Arm
+withMemory a t = record { timers = a .timers; registers = a .registers; x = a .x; y = a .y; inputs = a .inputs; outputs = a .outputs; memory = t }
+
+-- the data replace what is held under the number, and nothing else changes
+unfoldable pub replaced : Arm → Store → Arm
+replaced a (store.Timer n v) = withTimers a (set (a .timers) n (natAbs v))
+replaced a (store.Register n v) = withRegisters a (set (a .registers) n (natAbs v))
+replaced a (store.Row n r) = withRows a (set (a .x) n (r .x)) (set (a .y) n (r .y))
+replaced a (store.Output g v) = withOutputs a (withSignal (a .outputs) (g .0) (natAbs v))
+replaced a (store.OutputPort p v) = withOutputs a (set (a .outputs) (p .0) (natAbs v))
+replaced a (store.MemoryBit g v) = withMemory a (withSignal (a .memory) (g .0 - 256) (natAbs v))
+replaced a (store.MemoryPort p v) = withMemory a (set (a .memory) (p .0) (natAbs v))
+
+pub record Step : Type 0 where
+  pub arm : Arm
+  pub answer : Answer
+
+-- an accepted LN replies the data held, an accepted SN "00"
+abbrev pub obey : ℕ → Arm → Request → Step
+obey own a (request.Load l) =
+    record { arm = a; answer = record { number = 0; reply = frameOf own (contentText (contentOf (holds a l))) } }
+obey own a (request.Store q) =
+    record { arm = replaced a q; answer = record { number = 0; reply = frameOf own doneText } }
+
+-- a check after 8 refuses: its number and its reply, and nothing changes
+abbrev pub hear : ℕ → Arm → Judged → Step
+hear own a (judged.Accepted r) = obey own a r
+hear own a (judged.Refused n store) =
+    record { arm = a; answer = record { number = n; reply = frameOf own (refusalText n store) } }
+
+-- the station of the arm, the arm, and what happens
+unfoldable pub step : ℕ → Arm → Event → Step
+step own a (frameIn slice) = hear own a (readBody (readFrame slice .body))
+step own a (portIn port byte) = record { arm = withInputs a (set (a .inputs) port byte); answer = silent 0 }
+
+unfoldable pub runLone : ℕ → Arm → List Event → Arm
+runLone own a [] = a
+runLone own a (e ∷ es) = runLone own (step own a e .arm) es
+
+unfoldable pub answersLone : ℕ → Arm → List Event → List Answer
+answersLone own a [] = []
+answersLone own a (e ∷ es) = step own a e .answer ∷ answersLone own (step own a e .arm) es

@@ -1,0 +1,26 @@
+-- The shape of the tables: how many rows each has, and how long they are.
+use Prim.Native.Nat.{ℕ, _<_}
+use mathlib.Core.Path.{_≡_}
+use mathlib.Core.List.{List, []}
+use lib.ListN.{length, getD}
+use Rattle.tables.specs.Tables.{Tables}
+use Rattle.gateway.specs.Call.{Call}
+use Rattle.gateway.specs.Box.{setup, run}
+
+-- a row of n places for each of the four slots
+pub record Rows {A : Type 0} (n : ℕ) (t : List (List A)) : Type 0 where
+  pub slots : length t ≡ 4
+  pub row : (k : ℕ) → k < 4 → length (getD t k []) ≡ n
+
+pub record Shaped (t : Tables) : Type 0 where
+  pub timers : Rows 16 (t .timers)
+  pub registers : Rows 64 (t .registers)
+  pub x : Rows 100 (t .x)
+  pub y : Rows 100 (t .y)
+  pub inputs : Rows 32 (t .inputs)
+  pub outputs : Rows 32 (t .outputs)
+  pub memory : Rows 16 (t .memory)
+
+-- after any setup and any list of calls the tables have that shape (proved in proofs/Isolation.antt)
+abbrev pub AlwaysShaped : Type 0
+AlwaysShaped = (want : List ℕ) (cs : List Call) → Shaped (run (setup want) cs .tables)

@@ -1,0 +1,35 @@
+// Input calls: a byte put into an input port, as the arm's wiring does.
+ghost use mathlib.Core.Path.{_≡_};
+ghost use Prim.Native.Nat.{ℕ};
+ghost use Rattle.tables.specs.Tables.{tables};
+ghost use Rattle.gateway.specs.Entries.{Sensed, box};
+
+// Puts a byte into an input port of slot's arm. Refused, with number 14: a slot above 3 or unfitted, or a
+// port above 31.
+pub fn input(
+    timers: &mut [[u16; 16]; 4],
+    registers: &mut [[u16; 64]; 4],
+    x: &mut [[i32; 100]; 4],
+    y: &mut [[i32; 100]; 4],
+    inputs: &mut [[u8; 32]; 4],
+    outputs: &mut [[u8; 32]; 4],
+    memory: &mut [[u8; 16]; 4],
+    stations: &[u8; 4],
+    slot: usize,
+    port: usize,
+    byte: u8,
+) -> u8
+    ensures { λ r. ⌜ Sensed (box (now (stations .entry)) (tables (now (timers .entry)) (now (registers .entry)) (now (x .entry)) (now (y .entry)) (now (inputs .entry)) (now (outputs .entry)) (now (memory .entry)))) slot port byte r (tables (now (timers .exit)) (now (registers .exit)) (now (x .exit)) (now (y .exit)) (now (inputs .exit)) (now (outputs .exit)) (now (memory .exit))) ⌝ }
+{
+    if 3 < slot {
+        return 14;
+    }
+    if stations[slot] == 0 {
+        return 14;
+    }
+    if 31 < port {
+        return 14;
+    }
+    inputs[slot][port] = byte;
+    0
+}

@@ -1,0 +1,165 @@
+// Serving: a slice judged, performed on the arm that it addresses, and answered.
+use commands::request::Request;
+use frame::reader::read_frame;
+use frame::writer::close_frame;
+use frame::writer::open_frame;
+use harl::body::Judged;
+use harl::body::read_body;
+use harl::message::Sent;
+use harl::reply::Outcome;
+use harl::reply::put_held;
+use harl::reply::put_refusal;
+use harl::reply::put_status;
+use tables::perform::perform;
+ghost use mathlib.Core.Path.{_≡_};
+ghost use Prim.Native.Nat.{_≤_, _<_};
+ghost use lib.ListN.{length};
+ghost use Rattle.text.specs.Put.{Put};
+ghost use Rattle.frame.specs.Frame.{frameOf};
+ghost use Rattle.harl.specs.Reply.{refusalText};
+ghost use Rattle.tables.specs.Tables.{Tables, tables};
+ghost use Rattle.gateway.specs.Entries.{Served, BodyServed, foundIn, repliedText, box};
+
+// Where a station is.
+pub enum Found {
+    At(usize),
+    Nowhere,
+}
+
+// The first slot that has a station; 0 is none's.
+fn find_slot(stations: &[u8; 4], station: u8) -> Found
+    ensures { λ r. ⌜ r ≡ foundIn (now (stations .entry)) station ⌝ }
+{
+    if station == 0 {
+        return Found::Nowhere;
+    }
+    let mut i = 0;
+    while i < 4 {
+        if stations[i] == station {
+            return Found::At(i);
+        }
+        i += 1;
+    }
+    Found::Nowhere
+}
+
+// Writes the reply to a request that was performed.
+fn put_reply(reply: &mut [u8], station: u8, outcome: Outcome) -> usize
+    requires { ⌜ 64 ≤ length (now reply) ⌝ }
+    ensures { λ r. ⌜ Put (now (reply .entry)) 0 (frameOf station (repliedText outcome)) r (now (reply .exit)) ⌝ }
+{
+    let at = open_frame(reply, station);
+    match outcome {
+        Outcome::Data(held) => {
+            let end = put_held(reply, at, held);
+            close_frame(reply, end)
+        }
+        Outcome::Status(n) => {
+            let end = put_status(reply, at, true, n);
+            close_frame(reply, end)
+        }
+    }
+}
+
+// Writes the reply to a refused request.
+fn put_refused(reply: &mut [u8], station: u8, n: u8, store: bool) -> usize
+    requires { ⌜ 64 ≤ length (now reply) ⌝ }
+    ensures { λ r. ⌜ Put (now (reply .entry)) 0 (frameOf station (refusalText n store)) r (now (reply .exit)) ⌝ }
+{
+    let at = open_frame(reply, station);
+    let end = put_refusal(reply, at, n, store);
+    close_frame(reply, end)
+}
+
+// Serves a body that is addressed to slot's arm: checks 9 to 12, then the request.
+fn serve_body(
+    timers: &mut [[u16; 16]; 4],
+    registers: &mut [[u16; 64]; 4],
+    x: &mut [[i32; 100]; 4],
+    y: &mut [[i32; 100]; 4],
+    inputs: &mut [[u8; 32]; 4],
+    outputs: &mut [[u8; 32]; 4],
+    memory: &mut [[u8; 16]; 4],
+    slot: usize,
+    station: u8,
+    body: &[u8],
+    reply: &mut [u8],
+) -> Sent
+    ghost { Tables }
+    requires { λ t. ⌜ tables (now timers) (now registers) (now x) (now y) (now inputs) (now outputs) (now memory) ≡ t ⌝ }
+    requires { λ t. ⌜ (slot < 4) × (64 ≤ length (now reply)) ⌝ }
+    ensures { λ t r. ⌜ BodyServed slot station (now (body .entry)) t (now (reply .entry)) r (tables (now (timers .exit)) (now (registers .exit)) (now (x .exit)) (now (y .exit)) (now (inputs .exit)) (now (outputs .exit)) (now (memory .exit))) (now (reply .exit)) ⌝ }
+{
+    let judged = read_body(body);
+    match judged {
+        Judged::Accepted(request) => {
+            let outcome = perform(
+                timers,
+                registers,
+                x,
+                y,
+                inputs,
+                outputs,
+                memory,
+                slot,
+                request,
+            );
+            let length = put_reply(reply, station, outcome);
+            Sent { number: 0, length }
+        }
+        Judged::Refused(n, store) => {
+            let length = put_refused(reply, station, n, store);
+            Sent { number: n, length }
+        }
+    }
+}
+
+// Serves a slice: checks 1 to 12, in their order. With a reply, its bytes stand at the front of the reply
+// area; with none, the length is 0 and the area untouched. A refusal changes no table.
+pub fn serve(
+    timers: &mut [[u16; 16]; 4],
+    registers: &mut [[u16; 64]; 4],
+    x: &mut [[i32; 100]; 4],
+    y: &mut [[i32; 100]; 4],
+    inputs: &mut [[u8; 32]; 4],
+    outputs: &mut [[u8; 32]; 4],
+    memory: &mut [[u8; 16]; 4],
+    stations: &[u8; 4],
+    slice: &[u8],
+    reply: &mut [u8],
+) -> Sent
+    ensures { λ r. ⌜ Served (box (now (stations .entry)) (tables (now (timers .entry)) (now (registers .entry)) (now (x .entry)) (now (y .entry)) (now (inputs .entry)) (now (outputs .entry)) (now (memory .entry)))) (now (slice .entry)) (now (reply .entry)) r (tables (now (timers .exit)) (now (registers .exit)) (now (x .exit)) (now (y .exit)) (now (inputs .exit)) (now (outputs .exit)) (now (memory .exit))) (now (reply .exit)) ⌝ }
+{
+    if reply.len() < 64 {
+        return Sent {
+            number: 1,
+            length: 0,
+        };
+    }
+    let mut number: u8 = 0;
+    let mut station: u8 = 0;
+    let body = read_frame(slice, &mut number, &mut station);
+    if number != 0 {
+        return Sent { number, length: 0 };
+    }
+    let found = find_slot(stations, station);
+    match found {
+        Found::At(slot) => serve_body(
+            timers,
+            registers,
+            x,
+            y,
+            inputs,
+            outputs,
+            memory,
+            slot,
+            station,
+            body,
+            reply,
+        ),
+        Found::Nowhere => Sent {
+            number: 8,
+            length: 0,
+        },
+    }
+}

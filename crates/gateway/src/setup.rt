@@ -1,0 +1,111 @@
+// Setup: a new box in memory that the caller lends.
+ghost use mathlib.Core.Path.{_≡_};
+ghost use Prim.Native.Nat.{_-_, _≤_};
+ghost use lib.ListN.{length};
+ghost use Rattle.tables.specs.Tables.{tables, zeros};
+ghost use Rattle.gateway.specs.Box.{lacks, distinct, small, setupNumber};
+ghost use Rattle.gateway.specs.Entries.{SetUp};
+
+// Whether none of the slots from `from` on has the station s.
+fn is_lacking(want: [u16; 4], s: u16, from: usize) -> bool
+    requires { ⌜ from ≤ 4 ⌝ }
+    ensures { λ r. ⌜ r ≡ lacks want s (4 - from) from ⌝ }
+{
+    let mut i = from;
+    while i < 4 {
+        if want[i] == s {
+            return false;
+        }
+        i += 1;
+    }
+    true
+}
+
+// Whether no nonzero station stands twice.
+fn is_distinct(want: [u16; 4]) -> bool
+    ensures { λ r. ⌜ r ≡ distinct want 4 0 ⌝ }
+{
+    let mut i = 0;
+    while i < 4 {
+        let s = want[i];
+        if s != 0 {
+            if !is_lacking(want, s, i + 1) {
+                return false;
+            }
+        }
+        i += 1;
+    }
+    true
+}
+
+// Whether no station is above 99.
+fn is_small(want: [u16; 4]) -> bool
+    ensures { λ r. ⌜ r ≡ small want 4 0 ⌝ }
+{
+    let mut i = 0;
+    while i < 4 {
+        if 99 < want[i] {
+            return false;
+        }
+        i += 1;
+    }
+    true
+}
+
+// Check 13 of four station numbers; 0 where it passes.
+fn judge_setup(want: [u16; 4]) -> u8
+    ensures { λ r. ⌜ r ≡ setupNumber want ⌝ }
+{
+    if is_small(want) {
+        if is_distinct(want) {
+            return 0;
+        }
+    }
+    13
+}
+
+// Sets every row, register, timer and port to zero.
+fn clear(
+    timers: &mut [[u16; 16]; 4],
+    registers: &mut [[u16; 64]; 4],
+    x: &mut [[i32; 100]; 4],
+    y: &mut [[i32; 100]; 4],
+    inputs: &mut [[u8; 32]; 4],
+    outputs: &mut [[u8; 32]; 4],
+    memory: &mut [[u8; 16]; 4],
+)
+    ensures { λ _. ⌜ tables (now (timers .exit)) (now (registers .exit)) (now (x .exit)) (now (y .exit)) (now (inputs .exit)) (now (outputs .exit)) (now (memory .exit)) ≡ zeros ⌝ }
+{
+    *timers = [[0; 16]; 4];
+    *registers = [[0; 64]; 4];
+    *x = [[0; 100]; 4];
+    *y = [[0; 100]; 4];
+    *inputs = [[0; 32]; 4];
+    *outputs = [[0; 32]; 4];
+    *memory = [[0; 16]; 4];
+}
+
+// Sets up a new box, whatever the memory held: every table zero, and each slot with its station, or unfitted
+// where it is 0. Refused: number 13, and no slot is fitted.
+pub fn setup(
+    timers: &mut [[u16; 16]; 4],
+    registers: &mut [[u16; 64]; 4],
+    x: &mut [[i32; 100]; 4],
+    y: &mut [[i32; 100]; 4],
+    inputs: &mut [[u8; 32]; 4],
+    outputs: &mut [[u8; 32]; 4],
+    memory: &mut [[u8; 16]; 4],
+    stations: &mut [u8; 4],
+    want: [u16; 4],
+) -> u8
+    ensures { λ r. ⌜ SetUp want r (now (stations .exit)) (tables (now (timers .exit)) (now (registers .exit)) (now (x .exit)) (now (y .exit)) (now (inputs .exit)) (now (outputs .exit)) (now (memory .exit))) ⌝ }
+{
+    clear(timers, registers, x, y, inputs, outputs, memory);
+    let number = judge_setup(want);
+    if number != 0 {
+        *stations = [0; 4];
+        return number;
+    }
+    *stations = [want[0] as u8, want[1] as u8, want[2] as u8, want[3] as u8];
+    0
+}

@@ -1,0 +1,22 @@
+use mathlib.Core.Path.{_≡_, ap, _∙_}
+use native.Mathlib.Omega.{arith}
+use lib.IntN.{natAbs}
+use mir.Facts.{toZ-ofZ}
+use borrow.Author.Needs.{needs}
+use Rattle.tables.proofs.perform.as_byte.Statement.{statement}
+use Rattle.tables.proofs.perform.as_byte.Tie as tie
+
+sized : (c : tie.After-size-of) → c .size-of .result ≡ natAbs (c .before .args .v)
+sized c = c .size-of .ensures ∙ ap natAbs (toZ-ofZ (c .before .fits .v))
+
+size-of-requires : tie.Need-size-of-requires
+size-of-requires c κs = search needs
+
+cast-result : tie.Need-cast-result
+cast-result c = record { fits = omega (arith, sized c) }
+
+returns : tie.Need-returns
+returns c = sized c
+
+pub as-byte-spec : {M : Type 1} → statement M
+as-byte-spec = tie.close (tie.spec size-of-requires cast-result returns)

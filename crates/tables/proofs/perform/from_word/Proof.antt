@@ -1,0 +1,14 @@
+use mir.Facts.{toZ-pos}
+use mir.Syntax.{w32}
+use borrow.Author.Needs.{needs}
+use Rattle.tables.proofs.perform.from_word.Statement.{statement}
+use Rattle.tables.proofs.perform.from_word.Tie as tie
+
+cast-result : tie.Need-cast-result
+cast-result c = search needs
+
+returns : tie.Need-returns
+returns c = toZ-pos w32 (search needs)
+
+pub from-word-spec : {M : Type 1} → statement M
+from-word-spec = tie.close (tie.spec cast-result returns)

@@ -1,0 +1,131 @@
+-- The tables of four arms, and what a request does to them (document 01, "The tables and replies").
+use Prim.Native.Nat.{ℕ}
+use mathlib.Core.Path.{_≡_}
+use mathlib.Core.List.{List, []}
+use lib.ListN.{getD, set, replicate}
+use lib.IntN.{ℤ, pos, natAbs}
+use Rattle.commands.specs.declared.request.Row.{Row}
+use Rattle.commands.specs.declared.request.Load.{Load}
+use Rattle.commands.specs.declared.request.Load.the-variants as load
+use Rattle.commands.specs.declared.request.Store.{Store}
+use Rattle.commands.specs.declared.request.Store.the-variants as store
+use Rattle.harl.specs.declared.reply.Data.{Data}
+use Rattle.harl.specs.declared.reply.Data.the-variants as held
+use Rattle.commands.specs.declared.request.Request.{Request}
+use Rattle.commands.specs.declared.request.Request.the-variants as request
+use Rattle.harl.specs.declared.reply.Outcome.{Outcome}
+use Rattle.harl.specs.declared.reply.Outcome.the-variants as outcome
+use Rattle.harl.specs.Message.{judgeRequest}
+use Rattle.tables.specs.Bits.{bit, withBit}
+use Rattle.tables.specs.Chart.{placeOf}
+
+-- one table for each kind: a list of rows, one for each slot
+pub record Tables : Type 0 where
+  pub timers : List (List ℕ)
+  pub registers : List (List ℕ)
+  pub x : List (List ℤ)
+  pub y : List (List ℤ)
+  pub inputs : List (List ℕ)
+  pub outputs : List (List ℕ)
+  pub memory : List (List ℕ)
+
+abbrev pub tables :
+    List (List ℕ) →
+    List (List ℕ) →
+    List (List ℤ) →
+    List (List ℤ) →
+    List (List ℕ) →
+    List (List ℕ) →
+    List (List ℕ) →
+    Tables
+tables t r x y i o m =
+    record { timers = t; registers = r; x = x; y = y; inputs = i; outputs = o; memory = m }
+
+abbrev pub withTimers : Tables → List (List ℕ) → Tables
+withTimers t l = tables l (t .registers) (t .x) (t .y) (t .inputs) (t .outputs) (t .memory)
+
+abbrev pub withRegisters : Tables → List (List ℕ) → Tables
+withRegisters t l = tables (t .timers) l (t .x) (t .y) (t .inputs) (t .outputs) (t .memory)
+
+abbrev pub withRows : Tables → List (List ℤ) → List (List ℤ) → Tables
+withRows t lx ly = tables (t .timers) (t .registers) lx ly (t .inputs) (t .outputs) (t .memory)
+
+abbrev pub withInputs : Tables → List (List ℕ) → Tables
+withInputs t l = tables (t .timers) (t .registers) (t .x) (t .y) l (t .outputs) (t .memory)
+
+abbrev pub withOutputs : Tables → List (List ℕ) → Tables
+withOutputs t l = tables (t .timers) (t .registers) (t .x) (t .y) (t .inputs) l (t .memory)
+
+abbrev pub withMemory : Tables → List (List ℕ) → Tables
+withMemory t l = tables (t .timers) (t .registers) (t .x) (t .y) (t .inputs) (t .outputs) l
+
+-- what slot s holds under n
+abbrev pub at2 : List (List ℕ) → ℕ → ℕ → ℕ
+at2 t s n = getD (getD t s []) n 0
+
+abbrev pub atz2 : List (List ℤ) → ℕ → ℕ → ℤ
+atz2 t s n = getD (getD t s []) n (pos 0)
+
+-- the table with v under n of slot s, all else as it was
+abbrev pub set2 : {A : Type 0} → List (List A) → ℕ → ℕ → A → List (List A)
+set2 t s n v = set t s (set (getD t s []) n v)
+
+-- signal n of slot s, where the first signal of the table is `first`
+abbrev pub signal2 : ℕ → List (List ℕ) → ℕ → ℕ → ℕ
+signal2 first t s n = bit (at2 t s (placeOf first n .port)) (placeOf first n .bit)
+
+-- the table with v for that signal
+abbrev pub setSignal2 : ℕ → List (List ℕ) → ℕ → ℕ → ℕ → List (List ℕ)
+setSignal2 first t s n v = set2 t s (placeOf first n .port) (withBit (at2 t s (placeOf first n .port)) (placeOf first n .bit) v)
+
+-- what an LN answers: what is held under its number
+unfoldable pub loaded : ℕ → Load → Tables → Data
+loaded s (load.Timer n) t = held.Timer (pos (at2 (t .timers) s n))
+loaded s (load.Register n) t = held.Register (pos (at2 (t .registers) s n))
+loaded s (load.Row n) t = held.Row (record { x = atz2 (t .x) s n; y = atz2 (t .y) s n })
+loaded s (load.Input g) t = held.Signal (pos (signal2 0 (t .inputs) s (g .0)))
+loaded s (load.InputPort p) t = held.Port (pos (at2 (t .inputs) s (p .0)))
+loaded s (load.Output g) t = held.Signal (pos (signal2 0 (t .outputs) s (g .0)))
+loaded s (load.OutputPort p) t = held.Port (pos (at2 (t .outputs) s (p .0)))
+loaded s (load.MemoryBit g) t = held.Signal (pos (signal2 256 (t .memory) s (g .0)))
+loaded s (load.MemoryPort p) t = held.Port (pos (at2 (t .memory) s (p .0)))
+
+-- what an SN leaves: its data under its number, all else as it was
+unfoldable pub stored : ℕ → Store → Tables → Tables
+stored s (store.Timer n v) t = withTimers t (set2 (t .timers) s n (natAbs v))
+stored s (store.Register n v) t = withRegisters t (set2 (t .registers) s n (natAbs v))
+stored s (store.Row n r) t = withRows t (set2 (t .x) s n (r .x)) (set2 (t .y) s n (r .y))
+stored s (store.Output g v) t = withOutputs t (setSignal2 0 (t .outputs) s (g .0) (natAbs v))
+stored s (store.OutputPort p v) t = withOutputs t (set2 (t .outputs) s (p .0) (natAbs v))
+stored s (store.MemoryBit g v) t = withMemory t (setSignal2 256 (t .memory) s (g .0) (natAbs v))
+stored s (store.MemoryPort p v) t = withMemory t (set2 (t .memory) s (p .0) (natAbs v))
+
+-- every row, register, timer and port at zero
+unfoldable pub zeros : Tables
+zeros =
+    tables (replicate 4 (replicate 16 0)) (replicate 4 (replicate 64 0))
+    (replicate 4 (replicate 100 (pos 0))) (replicate 4 (replicate 100 (pos 0)))
+    (replicate 4 (replicate 32 0)) (replicate 4 (replicate 32 0)) (replicate 4 (replicate 16 0))
+
+-- ---- one request on slot s
+
+-- the number and the data of an LN, of an SN, are in range
+abbrev pub LoadInRange : Load → Type 0
+LoadInRange l = judgeRequest (request.Load l) ≡ 0
+
+abbrev pub StoreInRange : Store → Type 0
+StoreInRange q = judgeRequest (request.Store q) ≡ 0
+
+-- an LN changes nothing
+abbrev pub performed : ℕ → Request → Tables → Tables
+performed s (request.Load l) t = t
+performed s (request.Store q) t = stored s q t
+
+-- an LN answers its data, an SN the status 0
+abbrev pub answered : ℕ → Request → Tables → Outcome
+answered s (request.Load l) t = outcome.Data (loaded s l t)
+answered s (request.Store q) t = outcome.Status 0
+
+pub record Performed (s : ℕ) (r : Request) (before after : Tables) (o : Outcome) : Type 0 where
+  pub answer : o ≡ answered s r before
+  pub tables : after ≡ performed s r before
