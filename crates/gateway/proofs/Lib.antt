@@ -4,5 +4,6 @@ pub mod Arms
 pub mod Shaped
 pub mod Setups
 pub mod Accepted
+pub mod Replies
 pub mod Isolation
 pub mod Runs
