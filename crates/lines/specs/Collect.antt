@@ -2,7 +2,7 @@
 use Prim.Native.Nat.{ℕ, _+_}
 use mathlib.Core.Bool.{cond}
 use mathlib.Core.List.{List, [], _∷_}
-use lib.ListN.{length, take, set}
+use lib.ListN.{take, set}
 use lib.Dec.{ltb}
 
 -- how many bytes are held when one was added to n

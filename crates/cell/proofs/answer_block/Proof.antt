@@ -1,3 +1,4 @@
+-- The invariant: what is held and what waits are within their bounds.
 use Prim.Native.Nat.{_-_, _≤_}
 use borrow.Author.Needs.{needs}
 use Rattle.cell.proofs.answer_block.Statement.{statement}

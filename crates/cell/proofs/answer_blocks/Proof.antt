@@ -1,3 +1,4 @@
+-- The invariant: what was read, what is held and what waits are within their bounds. The measure: the blocks left.
 use Prim.Native.Nat.{_≤_}
 use native.Mathlib.Omega.{arith}
 use borrow.Author.Tests.{ltb-true}

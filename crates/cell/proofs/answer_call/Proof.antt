@@ -1,3 +1,4 @@
+-- A reply has at most 64 bytes, so its line at most 132.
 use Prim.Native.Nat.{_≤_}
 use mathlib.Core.Path.{_≡_, sym}
 use native.Mathlib.Omega.{arith}

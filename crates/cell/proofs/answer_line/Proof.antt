@@ -1,3 +1,4 @@
+-- A slice has at most the 256 bytes that are lent for it.
 use Prim.Native.Nat.{_≤_}
 use mathlib.Core.Path.{sym, ap, _∙_, subst}
 use native.Mathlib.Omega.{arith}

@@ -6,7 +6,7 @@ use native.Mathlib.Numerals.{add-one}
 use lib.ListN.{length, drop}
 use lib.Seq.{sets}
 use Rattle.lines.specs.Lines.{sliceOf}
-use Rattle.lines.proofs.Laws.{Call, call-is, digit-at, slice-more, slice-end}
+use Rattle.lines.proofs.Laws.{call-is, digit-at, slice-more, slice-end}
 use Rattle.lines.proofs.reader.put_slice.Statement.{statement}
 use Rattle.lines.proofs.reader.put_slice.Tie as tie
 
