@@ -1,6 +1,6 @@
 -- The lone box (document 01, "Demand 3's list and the lone box"): one arm with its own tables. It is fed the
--- calls addressed to that arm. It shares with the box only the reading of frames and requests and the
--- forming of replies.
+-- calls addressed to that arm. It shares with the box only the reading of frames and requests, the forming
+-- of replies, and what a bit of a byte is.
 use Prim.Native.Nat.{ℕ, _-_, _/_, _%_}
 use mathlib.Core.List.{List, [], _∷_}
 use lib.ListN.{getD, set, replicate}
