@@ -1,9 +1,1 @@
-pub mod Laws
-pub mod Slots
-pub mod Arms
-pub mod Shaped
-pub mod Setups
-pub mod Accepted
 pub mod Replies
-pub mod Isolation
-pub mod Runs

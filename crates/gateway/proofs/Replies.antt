@@ -15,9 +15,9 @@ use Rattle.harl.proofs.Bodies.{status-length}
 use Rattle.harl.proofs.Texts.{data-length}
 use Rattle.harl.specs.declared.message.Sent.{Sent}
 use Rattle.tables.specs.Tables.{Tables, loaded}
-use Rattle.gateway.specs.Call.{Call, serve}
+use Rattle.model.specs.Call.{Call, serve}
 use Rattle.gateway.specs.Entries.{Served}
-use Rattle.gateway.specs.Box.{Box, Decision, turned, refused, asked, sensed, decide, respond, answer}
+use Rattle.model.specs.Box.{Box, Decision, turned, refused, asked, sensed, decide, respond, answer}
 
 frame-short : (s : ℕ) (body : List ℕ) → length body ≤ 17 → length (frameOf s body) ≤ 64
 frame-short s body h = omega (arith, frame-length s body, shortest-short s)

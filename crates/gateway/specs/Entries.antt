@@ -13,8 +13,8 @@ use Rattle.tables.specs.Tables.{Tables}
 use mathlib.Core.Bool.{true}
 use Rattle.gateway.specs.declared.serve.Found.{Found}
 use Rattle.gateway.specs.declared.serve.Found.the-variants as found
-use Rattle.gateway.specs.Call.{serve, input, Answer}
-use Rattle.gateway.specs.Box.{Box, Slot, nowhere, at, slotOf, Decision, decideBody, performTables, respond, setupNumber, setup, after, answer}
+use Rattle.model.specs.Call.{serve, input, Answer}
+use Rattle.model.specs.Box.{Box, Slot, nowhere, at, slotOf, Decision, decideBody, performTables, respond, setupNumber, setup, after, answer}
 
 -- the box that lent stations and tables are
 abbrev pub box : List ℕ → Tables → Box

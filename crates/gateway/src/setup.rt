@@ -3,7 +3,7 @@ ghost use mathlib.Core.Path.{_≡_};
 ghost use Prim.Native.Nat.{_-_, _≤_};
 ghost use lib.ListN.{length};
 ghost use Rattle.tables.specs.Tables.{tables, zeros};
-ghost use Rattle.gateway.specs.Box.{lacks, distinct, small, setupNumber};
+ghost use Rattle.model.specs.Box.{lacks, distinct, small, setupNumber};
 ghost use Rattle.gateway.specs.Entries.{SetUp};
 
 // Whether none of the slots from `from` on has the station s.

@@ -4,3 +4,4 @@ pub mod Texts
 pub mod Bodies
 pub mod Requests
 pub mod Replies
+pub mod Accepted

@@ -32,6 +32,7 @@ pub enum Answered {
 }
 
 // What a writer answers: the number of its refusal, or 0 and the length of the frame.
+#[repr(C)]
 pub struct Sent {
     pub number: u8,
     pub length: usize,

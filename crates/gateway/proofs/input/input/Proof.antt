@@ -4,8 +4,8 @@ use mathlib.Core.Path.{_≡_}
 use borrow.Author.Needs.{needs}
 use borrow.Author.Tests.{lt-ltb, le-ltb, eq-eqb, ne-eqb}
 use Rattle.tables.specs.Tables.{withInputs, set2}
-use Rattle.gateway.specs.Call.{input}
-use Rattle.gateway.specs.Box.{Box, turned, sensed, decide, perform, respond, after, answer}
+use Rattle.model.specs.Call.{input}
+use Rattle.model.specs.Box.{Box, turned, sensed, decide, perform, respond, after, answer}
 use Rattle.gateway.specs.Entries.{Sensed}
 use Rattle.gateway.proofs.input.input.Statement.{statement}
 use Rattle.gateway.proofs.input.input.Tie as tie

@@ -6,7 +6,7 @@ use mathlib.Core.List.{List}
 use native.Mathlib.Omega.{arith}
 use borrow.Author.Tests.{eq-eqb, ne-eqb}
 use lib.ListN.{getD}
-use Rattle.gateway.specs.Box.{nowhere, at, scan, slotOf}
+use Rattle.model.specs.Box.{nowhere, at, scan, slotOf}
 use Rattle.gateway.proofs.serve.find_slot.Statement.{statement}
 use Rattle.gateway.proofs.serve.find_slot.Tie as tie
 

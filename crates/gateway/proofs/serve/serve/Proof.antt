@@ -10,10 +10,10 @@ use Rattle.frame.specs.Frame.{Read, readFrame}
 use Rattle.harl.specs.declared.message.Sent.{Sent}
 use Rattle.tables.specs.Tables.{Tables}
 use Rattle.gateway.specs.declared.serve.Found.the-variants as found
-use Rattle.gateway.specs.Call.{serve}
-use Rattle.gateway.specs.Box.{Slot, nowhere, at, slotOf, turned, decide, perform, respond, after, answer}
+use Rattle.model.specs.Call.{serve}
+use Rattle.model.specs.Box.{Slot, nowhere, at, slotOf, turned, decide, perform, respond, after, answer}
 use Rattle.gateway.specs.Entries.{box, asFound, foundIn, decided, BodyServed, Served}
-use Rattle.gateway.proofs.Slots.{slot-at}
+use Rattle.model.proofs.Slots.{slot-at}
 use Rattle.gateway.proofs.serve.serve.Statement.{statement}
 use Rattle.gateway.proofs.serve.serve.Tie as tie
 

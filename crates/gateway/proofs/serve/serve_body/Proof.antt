@@ -15,9 +15,9 @@ use Rattle.harl.specs.declared.reply.Outcome.{Outcome}
 use Rattle.harl.specs.Body.{readBody}
 use Rattle.harl.specs.Reply.{statusText, doneText, refusalText}
 use Rattle.tables.specs.Tables.{Tables, performed, answered, Performed}
-use Rattle.gateway.specs.Box.{asked, performTables, respond}
+use Rattle.model.specs.Box.{asked, performTables, respond}
 use Rattle.gateway.specs.Entries.{box, Given, repliedText, BodyServed}
-use Rattle.gateway.proofs.Accepted.{accepted-in-range}
+use Rattle.harl.proofs.Accepted.{accepted-in-range}
 use Rattle.gateway.proofs.serve.serve_body.Statement.{statement}
 use Rattle.gateway.proofs.serve.serve_body.Tie as tie
 

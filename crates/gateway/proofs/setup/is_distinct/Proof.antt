@@ -4,8 +4,8 @@ use mathlib.Core.Path.{_≡_, refl, sym, _∙_}
 use mathlib.Core.Logic.{⊎-elim}
 use native.Mathlib.Omega.{arith}
 use borrow.Author.Tests.{not-true, not-false}
-use Rattle.gateway.specs.Box.{distinct}
-use Rattle.gateway.proofs.Setups.{distinct-unfitted, distinct-once, distinct-twice, distinct-end}
+use Rattle.model.specs.Box.{distinct}
+use Rattle.model.proofs.Setups.{distinct-unfitted, distinct-once, distinct-twice, distinct-end}
 use Rattle.gateway.proofs.setup.is_distinct.Statement.{statement}
 use Rattle.gateway.proofs.setup.is_distinct.Tie as tie
 

@@ -2,8 +2,8 @@
 use Prim.Native.Nat.{_-_, _≤_}
 use mathlib.Core.Path.{_≡_, refl, sym, _∙_}
 use native.Mathlib.Omega.{arith}
-use Rattle.gateway.specs.Box.{lacks}
-use Rattle.gateway.proofs.Setups.{lacks-hit, lacks-miss, lacks-end}
+use Rattle.model.specs.Box.{lacks}
+use Rattle.model.proofs.Setups.{lacks-hit, lacks-miss, lacks-end}
 use Rattle.gateway.proofs.setup.is_lacking.Statement.{statement}
 use Rattle.gateway.proofs.setup.is_lacking.Tie as tie
 

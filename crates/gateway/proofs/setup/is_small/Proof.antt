@@ -2,8 +2,8 @@
 use Prim.Native.Nat.{_-_, _≤_}
 use mathlib.Core.Path.{_≡_, refl, sym, _∙_}
 use native.Mathlib.Omega.{arith}
-use Rattle.gateway.specs.Box.{small}
-use Rattle.gateway.proofs.Setups.{small-above, small-within, small-end}
+use Rattle.model.specs.Box.{small}
+use Rattle.model.proofs.Setups.{small-above, small-within, small-end}
 use Rattle.gateway.proofs.setup.is_small.Statement.{statement}
 use Rattle.gateway.proofs.setup.is_small.Tie as tie
 

@@ -1,6 +1,6 @@
 use mathlib.Core.Path.{sym, _∙_}
 use borrow.Author.Needs.{needs}
-use Rattle.gateway.specs.Box.{setupNumber}
+use Rattle.model.specs.Box.{setupNumber}
 use Rattle.gateway.proofs.setup.judge_setup.Statement.{statement}
 use Rattle.gateway.proofs.setup.judge_setup.Tie as tie
 

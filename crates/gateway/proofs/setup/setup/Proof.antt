@@ -6,8 +6,8 @@ use borrow.Author.Needs.{needs}
 use borrow.Kind.Array.{eInt, good-length}
 use mir.Syntax.{w16}
 use lib.ListN.{getD}
-use Rattle.gateway.specs.Box.{setup}
-use Rattle.gateway.proofs.Setups.{accepted-small, accepted-stations, refused-stations}
+use Rattle.model.specs.Box.{setup}
+use Rattle.model.proofs.Setups.{accepted-small, accepted-stations, refused-stations}
 use Rattle.gateway.proofs.setup.setup.Statement.{statement}
 use Rattle.gateway.proofs.setup.setup.Tie as tie
 

@@ -14,7 +14,7 @@ use Rattle.harl.specs.declared.body.Judged.the-variants as judged
 use Rattle.harl.specs.Body.{readBody}
 use Rattle.harl.specs.Reply.{contentOf, contentText, refusalText, doneText}
 use Rattle.tables.specs.Tables.{Tables, withInputs, set2, loaded, stored, zeros}
-use Rattle.gateway.specs.Call.{Call, serve, input, Answer, silent}
+use Rattle.model.specs.Call.{Call, serve, input, Answer, silent}
 
 -- a station of 0 leaves its slot unfitted
 pub record Box : Type 0 where

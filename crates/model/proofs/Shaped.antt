@@ -8,10 +8,10 @@ use Rattle.commands.specs.declared.request.Store.{Store}
 use Rattle.commands.specs.declared.request.Store.the-variants as store
 use Rattle.commands.specs.declared.request.Request.the-variants as request
 use Rattle.tables.specs.Tables.{Tables, set2, stored, zeros}
-use Rattle.gateway.specs.Call.{Call}
-use Rattle.gateway.specs.Box.{Box, Decision, turned, refused, asked, sensed, decide, performTables, perform, after, setup}
-use Rattle.gateway.specs.Shaped.{Rows, Shaped}
-use Rattle.gateway.proofs.Laws.{row-other, row-same}
+use Rattle.model.specs.Call.{Call}
+use Rattle.model.specs.Box.{Box, Decision, turned, refused, asked, sensed, decide, performTables, perform, after, setup}
+use Rattle.model.specs.Shaped.{Rows, Shaped}
+use Rattle.model.proofs.Laws.{row-other, row-same}
 
 -- ---- one table
 

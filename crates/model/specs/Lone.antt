@@ -19,7 +19,7 @@ use Rattle.harl.specs.declared.reply.Data.the-variants as held
 use Rattle.harl.specs.Body.{readBody}
 use Rattle.harl.specs.Reply.{contentOf, contentText, refusalText, doneText}
 use Rattle.tables.specs.Bits.{bit, withBit}
-use Rattle.gateway.specs.Call.{Answer, silent}
+use Rattle.model.specs.Call.{Answer, silent}
 
 -- 16 timers, 64 registers, 100 rows, 32 input, 32 output and 16 memory ports
 pub record Arm : Type 0 where

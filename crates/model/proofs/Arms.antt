@@ -14,13 +14,13 @@ use Rattle.harl.specs.declared.body.Judged.{Judged}
 use Rattle.harl.specs.declared.body.Judged.the-variants as judged
 use Rattle.harl.specs.Body.{readBody}
 use Rattle.tables.specs.Tables.{loaded, stored}
-use Rattle.gateway.specs.Call.{Call, serve, input}
-use Rattle.gateway.specs.Box.{Box, at, Decision, turned, refused, asked, sensed, decideBody, perform, respond}
-use Rattle.gateway.specs.Lone.{holds, replaced, Step, hear, step}
-use Rattle.gateway.specs.Addressed.{eventOf, armOf}
-use Rattle.gateway.specs.Shaped.{Shaped}
-use Rattle.gateway.proofs.Laws.{row-other, row-same}
-use Rattle.gateway.proofs.Slots.{concerns, heard}
+use Rattle.model.specs.Call.{Call, serve, input}
+use Rattle.model.specs.Box.{Box, at, Decision, turned, refused, asked, sensed, decideBody, perform, respond}
+use Rattle.model.specs.Lone.{holds, replaced, Step, hear, step}
+use Rattle.model.specs.Addressed.{eventOf, armOf}
+use Rattle.model.specs.Shaped.{Shaped}
+use Rattle.model.proofs.Laws.{row-other, row-same}
+use Rattle.model.proofs.Slots.{concerns, heard}
 
 -- the box after a store
 abbrev storedIn : Box → ℕ → Store → Box

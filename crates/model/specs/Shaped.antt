@@ -4,8 +4,8 @@ use mathlib.Core.Path.{_≡_}
 use mathlib.Core.List.{List, []}
 use lib.ListN.{length, getD}
 use Rattle.tables.specs.Tables.{Tables}
-use Rattle.gateway.specs.Call.{Call}
-use Rattle.gateway.specs.Box.{setup, run}
+use Rattle.model.specs.Call.{Call}
+use Rattle.model.specs.Box.{setup, run}
 
 -- a row of n places for each of the four slots
 pub record Rows {A : Type 0} (n : ℕ) (t : List (List A)) : Type 0 where

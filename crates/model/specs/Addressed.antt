@@ -6,9 +6,9 @@ use mathlib.Core.List.{List, [], _∷_}
 use lib.ListN.{getD}
 use lib.Dec.{leb, eqb}
 use Rattle.frame.specs.Frame.{readFrame}
-use Rattle.gateway.specs.Call.{Call, serve, input, Answer}
-use Rattle.gateway.specs.Box.{Box, after, answer}
-use Rattle.gateway.specs.Lone.{Arm, Event, frameIn, portIn}
+use Rattle.model.specs.Call.{Call, serve, input, Answer}
+use Rattle.model.specs.Box.{Box, after, answer}
+use Rattle.model.specs.Lone.{Arm, Event, frameIn, portIn}
 
 -- slot k has an arm
 abbrev pub Fitted : ℕ → List ℕ → Type 0

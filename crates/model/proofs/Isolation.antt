@@ -5,16 +5,16 @@ use mathlib.Core.Bool.{Bool, true, false, cond}
 use mathlib.Core.List.{List, [], _∷_}
 use lib.ListN.{getD, getD-replicate}
 use Rattle.tables.specs.Tables.{Tables, zeros}
-use Rattle.gateway.specs.Call.{Call}
-use Rattle.gateway.specs.Box.{Box, setup, Slot, nowhere, at, Decision, turned, refused, asked, sensed, decide, performTables, perform, after, answer, run}
-use Rattle.gateway.specs.Lone.{Arm, blank, Event, step, runLone, answersLone}
-use Rattle.gateway.specs.Addressed.{Fitted, isFor, eventOf, eventsFor, answersTo, armOf}
-use Rattle.gateway.specs.Shaped.{Shaped, AlwaysShaped}
-use Rattle.gateway.specs.Demand3.{Isolated, Demand3}
-use Rattle.gateway.proofs.Laws.{false-true}
-use Rattle.gateway.proofs.Slots.{Apart, setup-apart, nowhere-at, concerns, concerned, decided}
-use Rattle.gateway.proofs.Arms.{other, same}
-use Rattle.gateway.proofs.Shaped.{after-shaped, setup-shaped}
+use Rattle.model.specs.Call.{Call}
+use Rattle.model.specs.Box.{Box, setup, Slot, nowhere, at, Decision, turned, refused, asked, sensed, decide, performTables, perform, after, answer, run}
+use Rattle.model.specs.Lone.{Arm, blank, Event, step, runLone, answersLone}
+use Rattle.model.specs.Addressed.{Fitted, isFor, eventOf, eventsFor, answersTo, armOf}
+use Rattle.model.specs.Shaped.{Shaped, AlwaysShaped}
+use Rattle.model.specs.Demand3.{Isolated, Demand3}
+use Rattle.model.proofs.Laws.{false-true}
+use Rattle.model.proofs.Slots.{Apart, setup-apart, nowhere-at, concerns, concerned, decided}
+use Rattle.model.proofs.Arms.{other, same}
+use Rattle.model.proofs.Shaped.{after-shaped, setup-shaped}
 
 -- ---- one call
 

@@ -3,8 +3,8 @@ use Prim.Native.Nat.{ℕ}
 use mathlib.Core.Path.{_≡_}
 use mathlib.Core.List.{List, [], _∷_, _++_, map}
 use Rattle.frame.specs.Frame.{frameOf}
-use Rattle.gateway.specs.Call.{Call, serve, input, Answer, silent}
-use Rattle.gateway.specs.Box.{Box, setupNumber, setup, after, answer}
+use Rattle.model.specs.Call.{Call, serve, input, Answer, silent}
+use Rattle.model.specs.Box.{Box, setupNumber, setup, after, answer}
 
 -- a call and its answer
 pub record Turn : Type 0 where

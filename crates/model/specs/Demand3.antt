@@ -4,10 +4,10 @@ use mathlib.Core.Path.{_≡_}
 use mathlib.Core.Bool.{false}
 use mathlib.Core.List.{List}
 use lib.ListN.{getD}
-use Rattle.gateway.specs.Call.{Call}
-use Rattle.gateway.specs.Box.{Box, setup, after, run}
-use Rattle.gateway.specs.Lone.{blank, runLone, answersLone}
-use Rattle.gateway.specs.Addressed.{Fitted, isFor, eventsFor, answersTo, armOf}
+use Rattle.model.specs.Call.{Call}
+use Rattle.model.specs.Box.{Box, setup, after, run}
+use Rattle.model.specs.Lone.{blank, runLone, answersLone}
+use Rattle.model.specs.Addressed.{Fitted, isFor, eventsFor, answersTo, armOf}
 
 -- the arm of slot k goes as the lone box that has its station and is fed its calls alone
 pub record Isolated (b : Box) (k : ℕ) (cs : List Call) : Type 0 where

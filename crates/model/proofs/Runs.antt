@@ -11,8 +11,8 @@ use Rattle.harl.specs.Data.{inRange, allInRange, judge, rowText}
 use Rattle.harl.specs.Body.{readShape, decided, readBody}
 use Rattle.harl.specs.Reply.{statusText}
 use Rattle.tables.specs.Tables.{loaded, stored, zeros}
-use Rattle.gateway.specs.Box.{lacks, distinct, small, setupNumber, setup, scan, slotOf, decide, perform, respond, after, answer}
-use Rattle.gateway.specs.Examples.{answered, Runs}
+use Rattle.model.specs.Box.{lacks, distinct, small, setupNumber, setup, scan, slotOf, decide, perform, respond, after, answer}
+use Rattle.model.specs.Examples.{answered, Runs}
 
 pub runs-hold : Runs
 unfolding until digitsOnto readWhole place leading shortest padded
