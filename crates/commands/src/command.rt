@@ -99,59 +99,89 @@ pub fn is_same(a: &[u8], b: &[u8]) -> bool
     true
 }
 
+// Whether a name is a given one of three letters.
+fn is_short(name: &[u8], short: [u8; 3]) -> bool
+    ensures { λ r. ⌜ r ≡ same (now (name .entry)) short ⌝ }
+{
+    is_same(name, &short)
+}
+
+// Whether a name is a given one of four letters.
+fn is_long(name: &[u8], long: [u8; 4]) -> bool
+    ensures { λ r. ⌜ r ≡ same (now (name .entry)) long ⌝ }
+{
+    is_same(name, &long)
+}
+
 // The command that a name is.
 pub fn command_of(name: &[u8]) -> Named
     ensures { λ r. ⌜ r ≡ commandOf (now (name .entry)) ⌝ }
 {
-    if is_same(name, &LNT) {
+    if is_short(name, LNT) {
         return Named::Is(Command::Lnt);
     }
-    if is_same(name, &SNT) {
+    if is_short(name, SNT) {
         return Named::Is(Command::Snt);
     }
-    if is_same(name, &LND) {
+    if is_short(name, LND) {
         return Named::Is(Command::Lnd);
     }
-    if is_same(name, &SND) {
+    if is_short(name, SND) {
         return Named::Is(Command::Snd);
     }
-    if is_same(name, &LNL) {
+    if is_short(name, LNL) {
         return Named::Is(Command::Lnl);
     }
-    if is_same(name, &SNL) {
+    if is_short(name, SNL) {
         return Named::Is(Command::Snl);
     }
-    if is_same(name, &LNIB) {
+    if is_long(name, LNIB) {
         return Named::Is(Command::Lnib);
     }
-    if is_same(name, &LNOB) {
+    if is_long(name, LNOB) {
         return Named::Is(Command::Lnob);
     }
-    if is_same(name, &SNOB) {
+    if is_long(name, SNOB) {
         return Named::Is(Command::Snob);
     }
-    if is_same(name, &LNID) {
+    if is_long(name, LNID) {
         return Named::Is(Command::Lnid);
     }
-    if is_same(name, &LNOD) {
+    if is_long(name, LNOD) {
         return Named::Is(Command::Lnod);
     }
-    if is_same(name, &SNOD) {
+    if is_long(name, SNOD) {
         return Named::Is(Command::Snod);
     }
-    if is_same(name, &LNBB) {
+    if is_long(name, LNBB) {
         return Named::Is(Command::Lnbb);
     }
-    if is_same(name, &SNBB) {
+    if is_long(name, SNBB) {
         return Named::Is(Command::Snbb);
     }
-    if is_same(name, &LNBD) {
+    if is_long(name, LNBD) {
         return Named::Is(Command::Lnbd);
     }
-    if is_same(name, &SNBD) {
+    if is_long(name, SNBD) {
         return Named::Is(Command::Snbd);
     }
     Named::Unknown
+}
+
+// Writes a name of three letters.
+fn put_short(area: &mut [u8], at: usize, short: [u8; 3]) -> usize
+    requires { ⌜ at + 3 ≤ length (now area) ⌝ }
+    ensures { λ r. ⌜ Put (now (area .entry)) at short r (now (area .exit)) ⌝ }
+{
+    put_bytes(area, at, &short)
+}
+
+// Writes a name of four letters.
+fn put_long(area: &mut [u8], at: usize, long: [u8; 4]) -> usize
+    requires { ⌜ at + 4 ≤ length (now area) ⌝ }
+    ensures { λ r. ⌜ Put (now (area .entry)) at long r (now (area .exit)) ⌝ }
+{
+    put_bytes(area, at, &long)
 }
 
 // Writes a command's name.
@@ -160,22 +190,22 @@ pub fn put_name(area: &mut [u8], at: usize, command: Command) -> usize
     ensures { λ r. ⌜ Put (now (area .entry)) at (nameOf command) r (now (area .exit)) ⌝ }
 {
     match command {
-        Command::Lnt => put_bytes(area, at, &LNT),
-        Command::Snt => put_bytes(area, at, &SNT),
-        Command::Lnd => put_bytes(area, at, &LND),
-        Command::Snd => put_bytes(area, at, &SND),
-        Command::Lnl => put_bytes(area, at, &LNL),
-        Command::Snl => put_bytes(area, at, &SNL),
-        Command::Lnib => put_bytes(area, at, &LNIB),
-        Command::Lnob => put_bytes(area, at, &LNOB),
-        Command::Snob => put_bytes(area, at, &SNOB),
-        Command::Lnid => put_bytes(area, at, &LNID),
-        Command::Lnod => put_bytes(area, at, &LNOD),
-        Command::Snod => put_bytes(area, at, &SNOD),
-        Command::Lnbb => put_bytes(area, at, &LNBB),
-        Command::Snbb => put_bytes(area, at, &SNBB),
-        Command::Lnbd => put_bytes(area, at, &LNBD),
-        Command::Snbd => put_bytes(area, at, &SNBD),
+        Command::Lnt => put_short(area, at, LNT),
+        Command::Snt => put_short(area, at, SNT),
+        Command::Lnd => put_short(area, at, LND),
+        Command::Snd => put_short(area, at, SND),
+        Command::Lnl => put_short(area, at, LNL),
+        Command::Snl => put_short(area, at, SNL),
+        Command::Lnib => put_long(area, at, LNIB),
+        Command::Lnob => put_long(area, at, LNOB),
+        Command::Snob => put_long(area, at, SNOB),
+        Command::Lnid => put_long(area, at, LNID),
+        Command::Lnod => put_long(area, at, LNOD),
+        Command::Snod => put_long(area, at, SNOD),
+        Command::Lnbb => put_long(area, at, LNBB),
+        Command::Snbb => put_long(area, at, SNBB),
+        Command::Lnbd => put_long(area, at, LNBD),
+        Command::Snbd => put_long(area, at, SNBD),
     }
 }
 

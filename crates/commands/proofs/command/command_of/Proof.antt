@@ -12,52 +12,52 @@ abbrev name-0 : tie.Start → List ℕ
 name-0 c = c .args .name .now
 
 abbrev name-1 : tie.Else1 → List ℕ
-name-1 c = name-0 (c .before .before .before .before)
+name-1 c = name-0 (c .before .before .before)
 
 abbrev name-2 : tie.Else2 → List ℕ
-name-2 c = name-1 (c .before .before .before)
+name-2 c = name-1 (c .before .before)
 
 abbrev name-3 : tie.Else3 → List ℕ
-name-3 c = name-2 (c .before .before .before)
+name-3 c = name-2 (c .before .before)
 
 abbrev name-4 : tie.Else4 → List ℕ
-name-4 c = name-3 (c .before .before .before)
+name-4 c = name-3 (c .before .before)
 
 abbrev name-5 : tie.Else5 → List ℕ
-name-5 c = name-4 (c .before .before .before)
+name-5 c = name-4 (c .before .before)
 
 abbrev name-6 : tie.Else6 → List ℕ
-name-6 c = name-5 (c .before .before .before)
+name-6 c = name-5 (c .before .before)
 
 abbrev name-7 : tie.Else7 → List ℕ
-name-7 c = name-6 (c .before .before .before)
+name-7 c = name-6 (c .before .before)
 
 abbrev name-8 : tie.Else8 → List ℕ
-name-8 c = name-7 (c .before .before .before)
+name-8 c = name-7 (c .before .before)
 
 abbrev name-9 : tie.Else9 → List ℕ
-name-9 c = name-8 (c .before .before .before)
+name-9 c = name-8 (c .before .before)
 
 abbrev name-10 : tie.Else10 → List ℕ
-name-10 c = name-9 (c .before .before .before)
+name-10 c = name-9 (c .before .before)
 
 abbrev name-11 : tie.Else11 → List ℕ
-name-11 c = name-10 (c .before .before .before)
+name-11 c = name-10 (c .before .before)
 
 abbrev name-12 : tie.Else12 → List ℕ
-name-12 c = name-11 (c .before .before .before)
+name-12 c = name-11 (c .before .before)
 
 abbrev name-13 : tie.Else13 → List ℕ
-name-13 c = name-12 (c .before .before .before)
+name-13 c = name-12 (c .before .before)
 
 abbrev name-14 : tie.Else14 → List ℕ
-name-14 c = name-13 (c .before .before .before)
+name-14 c = name-13 (c .before .before)
 
 abbrev name-15 : tie.Else15 → List ℕ
-name-15 c = name-14 (c .before .before .before)
+name-15 c = name-14 (c .before .before)
 
 abbrev name-16 : tie.Else16 → List ℕ
-name-16 c = name-15 (c .before .before .before)
+name-16 c = name-15 (c .before .before)
 
 left-0 : (c : tie.Start) → among (drop 0 commands) (name-0 c) ≡ commandOf (name-0 c)
 unfolding commandOf
@@ -65,227 +65,179 @@ left-0 c = refl
 
 left-1 : (c : tie.Else1) → among (drop 1 commands) (name-1 c) ≡ commandOf (name-1 c)
 unfolding among nameOf
-left-1 c = rw (sym (c .before .is-same .ensures) ∙ c .if1 .left) at (left-0 (c .before .before .before .before))
+left-1 c = rw (sym (c .before .is-short .ensures) ∙ c .if1 .left) at (left-0 (c .before .before .before))
 
 left-2 : (c : tie.Else2) → among (drop 2 commands) (name-2 c) ≡ commandOf (name-2 c)
 unfolding among nameOf
-left-2 c = rw (sym (c .before .is-same2 .ensures) ∙ c .if2 .left) at (left-1 (c .before .before .before))
+left-2 c = rw (sym (c .before .is-short2 .ensures) ∙ c .if2 .left) at (left-1 (c .before .before))
 
 left-3 : (c : tie.Else3) → among (drop 3 commands) (name-3 c) ≡ commandOf (name-3 c)
 unfolding among nameOf
-left-3 c = rw (sym (c .before .is-same3 .ensures) ∙ c .if3 .left) at (left-2 (c .before .before .before))
+left-3 c = rw (sym (c .before .is-short3 .ensures) ∙ c .if3 .left) at (left-2 (c .before .before))
 
 left-4 : (c : tie.Else4) → among (drop 4 commands) (name-4 c) ≡ commandOf (name-4 c)
 unfolding among nameOf
-left-4 c = rw (sym (c .before .is-same4 .ensures) ∙ c .if4 .left) at (left-3 (c .before .before .before))
+left-4 c = rw (sym (c .before .is-short4 .ensures) ∙ c .if4 .left) at (left-3 (c .before .before))
 
 left-5 : (c : tie.Else5) → among (drop 5 commands) (name-5 c) ≡ commandOf (name-5 c)
 unfolding among nameOf
-left-5 c = rw (sym (c .before .is-same5 .ensures) ∙ c .if5 .left) at (left-4 (c .before .before .before))
+left-5 c = rw (sym (c .before .is-short5 .ensures) ∙ c .if5 .left) at (left-4 (c .before .before))
 
 left-6 : (c : tie.Else6) → among (drop 6 commands) (name-6 c) ≡ commandOf (name-6 c)
 unfolding among nameOf
-left-6 c = rw (sym (c .before .is-same6 .ensures) ∙ c .if6 .left) at (left-5 (c .before .before .before))
+left-6 c = rw (sym (c .before .is-short6 .ensures) ∙ c .if6 .left) at (left-5 (c .before .before))
 
 left-7 : (c : tie.Else7) → among (drop 7 commands) (name-7 c) ≡ commandOf (name-7 c)
 unfolding among nameOf
-left-7 c = rw (sym (c .before .is-same7 .ensures) ∙ c .if7 .left) at (left-6 (c .before .before .before))
+left-7 c = rw (sym (c .before .is-long .ensures) ∙ c .if7 .left) at (left-6 (c .before .before))
 
 left-8 : (c : tie.Else8) → among (drop 8 commands) (name-8 c) ≡ commandOf (name-8 c)
 unfolding among nameOf
-left-8 c = rw (sym (c .before .is-same8 .ensures) ∙ c .if8 .left) at (left-7 (c .before .before .before))
+left-8 c = rw (sym (c .before .is-long2 .ensures) ∙ c .if8 .left) at (left-7 (c .before .before))
 
 left-9 : (c : tie.Else9) → among (drop 9 commands) (name-9 c) ≡ commandOf (name-9 c)
 unfolding among nameOf
-left-9 c = rw (sym (c .before .is-same9 .ensures) ∙ c .if9 .left) at (left-8 (c .before .before .before))
+left-9 c = rw (sym (c .before .is-long3 .ensures) ∙ c .if9 .left) at (left-8 (c .before .before))
 
 left-10 : (c : tie.Else10) → among (drop 10 commands) (name-10 c) ≡ commandOf (name-10 c)
 unfolding among nameOf
-left-10 c = rw (sym (c .before .is-same10 .ensures) ∙ c .if10 .left) at (left-9 (c .before .before .before))
+left-10 c = rw (sym (c .before .is-long4 .ensures) ∙ c .if10 .left) at (left-9 (c .before .before))
 
 left-11 : (c : tie.Else11) → among (drop 11 commands) (name-11 c) ≡ commandOf (name-11 c)
 unfolding among nameOf
-left-11 c = rw (sym (c .before .is-same11 .ensures) ∙ c .if11 .left) at (left-10 (c .before .before .before))
+left-11 c = rw (sym (c .before .is-long5 .ensures) ∙ c .if11 .left) at (left-10 (c .before .before))
 
 left-12 : (c : tie.Else12) → among (drop 12 commands) (name-12 c) ≡ commandOf (name-12 c)
 unfolding among nameOf
-left-12 c = rw (sym (c .before .is-same12 .ensures) ∙ c .if12 .left) at (left-11 (c .before .before .before))
+left-12 c = rw (sym (c .before .is-long6 .ensures) ∙ c .if12 .left) at (left-11 (c .before .before))
 
 left-13 : (c : tie.Else13) → among (drop 13 commands) (name-13 c) ≡ commandOf (name-13 c)
 unfolding among nameOf
-left-13 c = rw (sym (c .before .is-same13 .ensures) ∙ c .if13 .left) at (left-12 (c .before .before .before))
+left-13 c = rw (sym (c .before .is-long7 .ensures) ∙ c .if13 .left) at (left-12 (c .before .before))
 
 left-14 : (c : tie.Else14) → among (drop 14 commands) (name-14 c) ≡ commandOf (name-14 c)
 unfolding among nameOf
-left-14 c = rw (sym (c .before .is-same14 .ensures) ∙ c .if14 .left) at (left-13 (c .before .before .before))
+left-14 c = rw (sym (c .before .is-long8 .ensures) ∙ c .if14 .left) at (left-13 (c .before .before))
 
 left-15 : (c : tie.Else15) → among (drop 15 commands) (name-15 c) ≡ commandOf (name-15 c)
 unfolding among nameOf
-left-15 c = rw (sym (c .before .is-same15 .ensures) ∙ c .if15 .left) at (left-14 (c .before .before .before))
+left-15 c = rw (sym (c .before .is-long9 .ensures) ∙ c .if15 .left) at (left-14 (c .before .before))
 
 left-16 : (c : tie.Else16) → among (drop 16 commands) (name-16 c) ≡ commandOf (name-16 c)
 unfolding among nameOf
-left-16 c = rw (sym (c .before .is-same16 .ensures) ∙ c .if16 .left) at (left-15 (c .before .before .before))
+left-16 c = rw (sym (c .before .is-long10 .ensures) ∙ c .if16 .left) at (left-15 (c .before .before))
 
-slice-aggregate-is-same : tie.Need-slice-aggregate-is-same
-slice-aggregate-is-same c = search needs
-
-is-same-requires : tie.Need-is-same-requires
-is-same-requires c κs = search needs
+is-short-requires : tie.Need-is-short-requires
+is-short-requires c κs = search needs
 
 returns : tie.Need-returns
 unfolding among nameOf
-returns c = rw (sym (c .before .is-same .ensures) ∙ c .if1 .taken) at (left-0 (c .before .before .before .before))
+returns c = rw (sym (c .before .is-short .ensures) ∙ c .if1 .taken) at (left-0 (c .before .before .before))
 
-slice-aggregate-is-same-2 : tie.Need-slice-aggregate-is-same-2
-slice-aggregate-is-same-2 c = search needs
-
-is-same-requires-2 : tie.Need-is-same-requires-2
-is-same-requires-2 c κs = search needs
+is-short-requires-2 : tie.Need-is-short-requires-2
+is-short-requires-2 c κs = search needs
 
 returns-2 : tie.Need-returns-2
 unfolding among nameOf
-returns-2 c = rw (sym (c .before .is-same2 .ensures) ∙ c .if2 .taken) at (left-1 (c .before .before .before))
+returns-2 c = rw (sym (c .before .is-short2 .ensures) ∙ c .if2 .taken) at (left-1 (c .before .before))
 
-slice-aggregate-is-same-3 : tie.Need-slice-aggregate-is-same-3
-slice-aggregate-is-same-3 c = search needs
-
-is-same-requires-3 : tie.Need-is-same-requires-3
-is-same-requires-3 c κs = search needs
+is-short-requires-3 : tie.Need-is-short-requires-3
+is-short-requires-3 c κs = search needs
 
 returns-3 : tie.Need-returns-3
 unfolding among nameOf
-returns-3 c = rw (sym (c .before .is-same3 .ensures) ∙ c .if3 .taken) at (left-2 (c .before .before .before))
+returns-3 c = rw (sym (c .before .is-short3 .ensures) ∙ c .if3 .taken) at (left-2 (c .before .before))
 
-slice-aggregate-is-same-4 : tie.Need-slice-aggregate-is-same-4
-slice-aggregate-is-same-4 c = search needs
-
-is-same-requires-4 : tie.Need-is-same-requires-4
-is-same-requires-4 c κs = search needs
+is-short-requires-4 : tie.Need-is-short-requires-4
+is-short-requires-4 c κs = search needs
 
 returns-4 : tie.Need-returns-4
 unfolding among nameOf
-returns-4 c = rw (sym (c .before .is-same4 .ensures) ∙ c .if4 .taken) at (left-3 (c .before .before .before))
+returns-4 c = rw (sym (c .before .is-short4 .ensures) ∙ c .if4 .taken) at (left-3 (c .before .before))
 
-slice-aggregate-is-same-5 : tie.Need-slice-aggregate-is-same-5
-slice-aggregate-is-same-5 c = search needs
-
-is-same-requires-5 : tie.Need-is-same-requires-5
-is-same-requires-5 c κs = search needs
+is-short-requires-5 : tie.Need-is-short-requires-5
+is-short-requires-5 c κs = search needs
 
 returns-5 : tie.Need-returns-5
 unfolding among nameOf
-returns-5 c = rw (sym (c .before .is-same5 .ensures) ∙ c .if5 .taken) at (left-4 (c .before .before .before))
+returns-5 c = rw (sym (c .before .is-short5 .ensures) ∙ c .if5 .taken) at (left-4 (c .before .before))
 
-slice-aggregate-is-same-6 : tie.Need-slice-aggregate-is-same-6
-slice-aggregate-is-same-6 c = search needs
-
-is-same-requires-6 : tie.Need-is-same-requires-6
-is-same-requires-6 c κs = search needs
+is-short-requires-6 : tie.Need-is-short-requires-6
+is-short-requires-6 c κs = search needs
 
 returns-6 : tie.Need-returns-6
 unfolding among nameOf
-returns-6 c = rw (sym (c .before .is-same6 .ensures) ∙ c .if6 .taken) at (left-5 (c .before .before .before))
+returns-6 c = rw (sym (c .before .is-short6 .ensures) ∙ c .if6 .taken) at (left-5 (c .before .before))
 
-slice-aggregate-is-same-7 : tie.Need-slice-aggregate-is-same-7
-slice-aggregate-is-same-7 c = search needs
-
-is-same-requires-7 : tie.Need-is-same-requires-7
-is-same-requires-7 c κs = search needs
+is-long-requires : tie.Need-is-long-requires
+is-long-requires c κs = search needs
 
 returns-7 : tie.Need-returns-7
 unfolding among nameOf
-returns-7 c = rw (sym (c .before .is-same7 .ensures) ∙ c .if7 .taken) at (left-6 (c .before .before .before))
+returns-7 c = rw (sym (c .before .is-long .ensures) ∙ c .if7 .taken) at (left-6 (c .before .before))
 
-slice-aggregate-is-same-8 : tie.Need-slice-aggregate-is-same-8
-slice-aggregate-is-same-8 c = search needs
-
-is-same-requires-8 : tie.Need-is-same-requires-8
-is-same-requires-8 c κs = search needs
+is-long-requires-2 : tie.Need-is-long-requires-2
+is-long-requires-2 c κs = search needs
 
 returns-8 : tie.Need-returns-8
 unfolding among nameOf
-returns-8 c = rw (sym (c .before .is-same8 .ensures) ∙ c .if8 .taken) at (left-7 (c .before .before .before))
+returns-8 c = rw (sym (c .before .is-long2 .ensures) ∙ c .if8 .taken) at (left-7 (c .before .before))
 
-slice-aggregate-is-same-9 : tie.Need-slice-aggregate-is-same-9
-slice-aggregate-is-same-9 c = search needs
-
-is-same-requires-9 : tie.Need-is-same-requires-9
-is-same-requires-9 c κs = search needs
+is-long-requires-3 : tie.Need-is-long-requires-3
+is-long-requires-3 c κs = search needs
 
 returns-9 : tie.Need-returns-9
 unfolding among nameOf
-returns-9 c = rw (sym (c .before .is-same9 .ensures) ∙ c .if9 .taken) at (left-8 (c .before .before .before))
+returns-9 c = rw (sym (c .before .is-long3 .ensures) ∙ c .if9 .taken) at (left-8 (c .before .before))
 
-slice-aggregate-is-same-10 : tie.Need-slice-aggregate-is-same-10
-slice-aggregate-is-same-10 c = search needs
-
-is-same-requires-10 : tie.Need-is-same-requires-10
-is-same-requires-10 c κs = search needs
+is-long-requires-4 : tie.Need-is-long-requires-4
+is-long-requires-4 c κs = search needs
 
 returns-10 : tie.Need-returns-10
 unfolding among nameOf
-returns-10 c = rw (sym (c .before .is-same10 .ensures) ∙ c .if10 .taken) at (left-9 (c .before .before .before))
+returns-10 c = rw (sym (c .before .is-long4 .ensures) ∙ c .if10 .taken) at (left-9 (c .before .before))
 
-slice-aggregate-is-same-11 : tie.Need-slice-aggregate-is-same-11
-slice-aggregate-is-same-11 c = search needs
-
-is-same-requires-11 : tie.Need-is-same-requires-11
-is-same-requires-11 c κs = search needs
+is-long-requires-5 : tie.Need-is-long-requires-5
+is-long-requires-5 c κs = search needs
 
 returns-11 : tie.Need-returns-11
 unfolding among nameOf
-returns-11 c = rw (sym (c .before .is-same11 .ensures) ∙ c .if11 .taken) at (left-10 (c .before .before .before))
+returns-11 c = rw (sym (c .before .is-long5 .ensures) ∙ c .if11 .taken) at (left-10 (c .before .before))
 
-slice-aggregate-is-same-12 : tie.Need-slice-aggregate-is-same-12
-slice-aggregate-is-same-12 c = search needs
-
-is-same-requires-12 : tie.Need-is-same-requires-12
-is-same-requires-12 c κs = search needs
+is-long-requires-6 : tie.Need-is-long-requires-6
+is-long-requires-6 c κs = search needs
 
 returns-12 : tie.Need-returns-12
 unfolding among nameOf
-returns-12 c = rw (sym (c .before .is-same12 .ensures) ∙ c .if12 .taken) at (left-11 (c .before .before .before))
+returns-12 c = rw (sym (c .before .is-long6 .ensures) ∙ c .if12 .taken) at (left-11 (c .before .before))
 
-slice-aggregate-is-same-13 : tie.Need-slice-aggregate-is-same-13
-slice-aggregate-is-same-13 c = search needs
-
-is-same-requires-13 : tie.Need-is-same-requires-13
-is-same-requires-13 c κs = search needs
+is-long-requires-7 : tie.Need-is-long-requires-7
+is-long-requires-7 c κs = search needs
 
 returns-13 : tie.Need-returns-13
 unfolding among nameOf
-returns-13 c = rw (sym (c .before .is-same13 .ensures) ∙ c .if13 .taken) at (left-12 (c .before .before .before))
+returns-13 c = rw (sym (c .before .is-long7 .ensures) ∙ c .if13 .taken) at (left-12 (c .before .before))
 
-slice-aggregate-is-same-14 : tie.Need-slice-aggregate-is-same-14
-slice-aggregate-is-same-14 c = search needs
-
-is-same-requires-14 : tie.Need-is-same-requires-14
-is-same-requires-14 c κs = search needs
+is-long-requires-8 : tie.Need-is-long-requires-8
+is-long-requires-8 c κs = search needs
 
 returns-14 : tie.Need-returns-14
 unfolding among nameOf
-returns-14 c = rw (sym (c .before .is-same14 .ensures) ∙ c .if14 .taken) at (left-13 (c .before .before .before))
+returns-14 c = rw (sym (c .before .is-long8 .ensures) ∙ c .if14 .taken) at (left-13 (c .before .before))
 
-slice-aggregate-is-same-15 : tie.Need-slice-aggregate-is-same-15
-slice-aggregate-is-same-15 c = search needs
-
-is-same-requires-15 : tie.Need-is-same-requires-15
-is-same-requires-15 c κs = search needs
+is-long-requires-9 : tie.Need-is-long-requires-9
+is-long-requires-9 c κs = search needs
 
 returns-15 : tie.Need-returns-15
 unfolding among nameOf
-returns-15 c = rw (sym (c .before .is-same15 .ensures) ∙ c .if15 .taken) at (left-14 (c .before .before .before))
+returns-15 c = rw (sym (c .before .is-long9 .ensures) ∙ c .if15 .taken) at (left-14 (c .before .before))
 
-slice-aggregate-is-same-16 : tie.Need-slice-aggregate-is-same-16
-slice-aggregate-is-same-16 c = search needs
-
-is-same-requires-16 : tie.Need-is-same-requires-16
-is-same-requires-16 c κs = search needs
+is-long-requires-10 : tie.Need-is-long-requires-10
+is-long-requires-10 c κs = search needs
 
 returns-16 : tie.Need-returns-16
 unfolding among nameOf
-returns-16 c = rw (sym (c .before .is-same16 .ensures) ∙ c .if16 .taken) at (left-15 (c .before .before .before))
+returns-16 c = rw (sym (c .before .is-long10 .ensures) ∙ c .if16 .taken) at (left-15 (c .before .before))
 
 returns-17 : tie.Need-returns-17
 unfolding among
@@ -295,52 +247,36 @@ pub command-of-spec : {M : Type 1} → statement M
 command-of-spec =
     tie.close
     (tie.spec
-    slice-aggregate-is-same
-    is-same-requires
+    is-short-requires
     returns
-    slice-aggregate-is-same-2
-    is-same-requires-2
+    is-short-requires-2
     returns-2
-    slice-aggregate-is-same-3
-    is-same-requires-3
+    is-short-requires-3
     returns-3
-    slice-aggregate-is-same-4
-    is-same-requires-4
+    is-short-requires-4
     returns-4
-    slice-aggregate-is-same-5
-    is-same-requires-5
+    is-short-requires-5
     returns-5
-    slice-aggregate-is-same-6
-    is-same-requires-6
+    is-short-requires-6
     returns-6
-    slice-aggregate-is-same-7
-    is-same-requires-7
+    is-long-requires
     returns-7
-    slice-aggregate-is-same-8
-    is-same-requires-8
+    is-long-requires-2
     returns-8
-    slice-aggregate-is-same-9
-    is-same-requires-9
+    is-long-requires-3
     returns-9
-    slice-aggregate-is-same-10
-    is-same-requires-10
+    is-long-requires-4
     returns-10
-    slice-aggregate-is-same-11
-    is-same-requires-11
+    is-long-requires-5
     returns-11
-    slice-aggregate-is-same-12
-    is-same-requires-12
+    is-long-requires-6
     returns-12
-    slice-aggregate-is-same-13
-    is-same-requires-13
+    is-long-requires-7
     returns-13
-    slice-aggregate-is-same-14
-    is-same-requires-14
+    is-long-requires-8
     returns-14
-    slice-aggregate-is-same-15
-    is-same-requires-15
+    is-long-requires-9
     returns-15
-    slice-aggregate-is-same-16
-    is-same-requires-16
+    is-long-requires-10
     returns-16
     returns-17)
