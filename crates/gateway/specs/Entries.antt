@@ -3,14 +3,10 @@ use Prim.Native.Nat.{ℕ}
 use mathlib.Core.Path.{_≡_}
 use mathlib.Core.List.{List}
 use lib.ListN.{length}
-use lib.Seq.{sets}
 use Rattle.harl.specs.declared.message.Sent.{Sent}
-use Rattle.harl.specs.declared.reply.Outcome.{Outcome}
-use Rattle.harl.specs.declared.reply.Outcome.the-variants as outcome
 use Rattle.harl.specs.Body.{readBody}
-use Rattle.harl.specs.Reply.{contentOf, contentText, statusText}
+use Rattle.harl.specs.Message.{Message, Wrote}
 use Rattle.tables.specs.Tables.{Tables}
-use mathlib.Core.Bool.{true}
 use Rattle.gateway.specs.declared.serve.Found.{Found}
 use Rattle.gateway.specs.declared.serve.Found.the-variants as found
 use Rattle.model.specs.Call.{serve, input, Answer}
@@ -31,15 +27,13 @@ pub record Sensed (b : Box) (slot port byte : ℕ) (number : ℕ) (t : Tables) :
   pub number-is : number ≡ answer b (input slot port byte) .number
   pub tables-are : t ≡ after b (input slot port byte) .tables
 
--- an answer given: the number, the length, and the area, untouched past the reply
-pub record Given (a : Answer) (before : List ℕ) (sent : Sent) (later : List ℕ) : Type 0 where
-  pub number-is : sent .number ≡ a .number
-  pub length-is : sent .length ≡ length (a .reply)
-  pub area-is : later ≡ sets before 0 (a .reply)
+-- an answer as what a writer gives
+abbrev pub written : Answer → Message
+written a = record { number = a .number; bytes = a .reply }
 
 -- a serving call: the answer and every table
 pub record Served (b : Box) (slice before : List ℕ) (sent : Sent) (t : Tables) (later : List ℕ) : Type 0 where
-  pub answer-is : Given (answer b (serve slice (length before))) before sent later
+  pub answer-is : Wrote (written (answer b (serve slice (length before)))) before sent later
   pub tables-are : t ≡ after b (serve slice (length before)) .tables
 
 -- ---- what is used on the way
@@ -51,15 +45,10 @@ asFound (at k) = found.At k
 abbrev pub foundIn : List ℕ → ℕ → Found
 foundIn st s = asFound (slotOf st s)
 
--- the body of the reply to a request that was performed
-abbrev pub repliedText : Outcome → List ℕ
-repliedText (outcome.Data d) = contentText (contentOf d)
-repliedText (outcome.Status n) = statusText true n
-
 -- what is decided of a body that is addressed to slot k
 abbrev pub decided : ℕ → ℕ → List ℕ → Decision
 decided k s body = decideBody k s (readBody body)
 
 pub record BodyServed (k s : ℕ) (body : List ℕ) (t : Tables) (before : List ℕ) (sent : Sent) (t′ : Tables) (later : List ℕ) : Type 0 where
-  pub answer-is : (st : List ℕ) → Given (respond (box st t) (decided k s body)) before sent later
+  pub answer-is : (st : List ℕ) → Wrote (written (respond (box st t) (decided k s body))) before sent later
   pub tables-are : t′ ≡ performTables t (decided k s body)

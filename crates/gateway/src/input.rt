@@ -1,6 +1,5 @@
 // Input calls: a byte put into an input port, as the arm's wiring does.
-ghost use mathlib.Core.Path.{_≡_};
-ghost use Prim.Native.Nat.{ℕ};
+use commands::request::Port;
 ghost use Rattle.tables.specs.Tables.{tables};
 ghost use Rattle.gateway.specs.Entries.{Sensed, box};
 
@@ -16,10 +15,10 @@ pub fn input(
     memory: &mut [[u8; 16]; 4],
     stations: &[u8; 4],
     slot: usize,
-    port: usize,
+    port: Port,
     byte: u8,
 ) -> u8
-    ensures { λ r. ⌜ Sensed (box (now (stations .entry)) (tables (now (timers .entry)) (now (registers .entry)) (now (x .entry)) (now (y .entry)) (now (inputs .entry)) (now (outputs .entry)) (now (memory .entry)))) slot port byte r (tables (now (timers .exit)) (now (registers .exit)) (now (x .exit)) (now (y .exit)) (now (inputs .exit)) (now (outputs .exit)) (now (memory .exit))) ⌝ }
+    ensures { λ r. ⌜ Sensed (box (now (stations .entry)) (tables (now (timers .entry)) (now (registers .entry)) (now (x .entry)) (now (y .entry)) (now (inputs .entry)) (now (outputs .entry)) (now (memory .entry)))) slot (port .0) byte r (tables (now (timers .exit)) (now (registers .exit)) (now (x .exit)) (now (y .exit)) (now (inputs .exit)) (now (outputs .exit)) (now (memory .exit))) ⌝ }
 {
     if 3 < slot {
         return 14;
@@ -27,9 +26,10 @@ pub fn input(
     if stations[slot] == 0 {
         return 14;
     }
-    if 31 < port {
+    let p = port.0 as usize;
+    if 31 < p {
         return 14;
     }
-    inputs[slot][port] = byte;
+    inputs[slot][p] = byte;
     0
 }

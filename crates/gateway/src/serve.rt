@@ -1,5 +1,4 @@
 // Serving: a slice judged, performed on the arm that it addresses, and answered.
-use commands::request::Request;
 use frame::reader::read_frame;
 use frame::writer::close_frame;
 use frame::writer::open_frame;
@@ -7,18 +6,18 @@ use harl::body::Judged;
 use harl::body::read_body;
 use harl::message::Sent;
 use harl::reply::Outcome;
-use harl::reply::put_held;
+use harl::reply::put_outcome;
 use harl::reply::put_refusal;
-use harl::reply::put_status;
 use tables::perform::perform;
 ghost use mathlib.Core.Path.{_≡_};
 ghost use Prim.Native.Nat.{_≤_, _<_};
 ghost use lib.ListN.{length};
 ghost use Rattle.text.specs.Put.{Put};
 ghost use Rattle.frame.specs.Frame.{frameOf};
-ghost use Rattle.harl.specs.Reply.{refusalText};
+ghost use mathlib.Core.Bool.{true};
+ghost use Rattle.harl.specs.Reply.{outcomeText, refusalText};
 ghost use Rattle.tables.specs.Tables.{Tables, tables};
-ghost use Rattle.gateway.specs.Entries.{Served, BodyServed, foundIn, repliedText, box};
+ghost use Rattle.gateway.specs.Entries.{Served, BodyServed, foundIn, box};
 
 // Where a station is.
 pub enum Found {
@@ -43,22 +42,14 @@ fn find_slot(stations: &[u8; 4], station: u8) -> Found
     Found::Nowhere
 }
 
-// Writes the reply to a request that was performed.
+// Writes the reply to a request that was performed: data, or the status of an SN.
 fn put_reply(reply: &mut [u8], station: u8, outcome: Outcome) -> usize
     requires { ⌜ 64 ≤ length (now reply) ⌝ }
-    ensures { λ r. ⌜ Put (now (reply .entry)) 0 (frameOf station (repliedText outcome)) r (now (reply .exit)) ⌝ }
+    ensures { λ r. ⌜ Put (now (reply .entry)) 0 (frameOf station (outcomeText true outcome)) r (now (reply .exit)) ⌝ }
 {
     let at = open_frame(reply, station);
-    match outcome {
-        Outcome::Data(held) => {
-            let end = put_held(reply, at, held);
-            close_frame(reply, end)
-        }
-        Outcome::Status(n) => {
-            let end = put_status(reply, at, true, n);
-            close_frame(reply, end)
-        }
-    }
+    let end = put_outcome(reply, at, true, outcome);
+    close_frame(reply, end)
 }
 
 // Writes the reply to a refused request.

@@ -1,9 +1,10 @@
 -- Bodies and frames: how long they are, and what a writer answers.
 use Prim.Native.Nat.{ℕ, _+_, _≤_}
 use mathlib.Core.Path.{_≡_, refl}
-use mathlib.Core.Bool.{Bool, true, false}
+use mathlib.Core.Bool.{Bool, true, false, cond}
 use mathlib.Core.List.{List, []}
 use native.Mathlib.Omega.{arith}
+use lib.Dec.{eqb}
 use lib.ListN.{length, length-append}
 use Rattle.text.specs.Put.{Put}
 use Rattle.text.specs.Whole.{place, shortest}
@@ -13,14 +14,13 @@ use Rattle.frame.proofs.Writing.{frame-length}
 use Rattle.commands.specs.declared.command.Command.{Command}
 use Rattle.commands.specs.declared.command.Command.the-variants.{Lnt, Snt, Lnd, Snd, Lnl, Snl, Lnib, Lnob, Snob, Lnid, Lnod, Snod, Lnbb, Snbb, Lnbd, Snbd}
 use Rattle.commands.specs.declared.command.Kind.{Kind}
-use Rattle.commands.specs.declared.command.Rule.{Rule}
 use Rattle.commands.specs.declared.request.Row.{Row}
 use Rattle.commands.specs.declared.request.Parts.{Parts}
 use Rattle.harl.specs.declared.reply.Outcome.{Outcome}
 use Rattle.harl.specs.declared.reply.Outcome.the-variants as outcome
 use Rattle.commands.specs.Command.{nameOf, ruleOf}
 use Rattle.harl.specs.Body.{dataPart, bodyText}
-use Rattle.harl.specs.Reply.{contentOf, statusText, outcomeText}
+use Rattle.harl.specs.Reply.{contentOf, unknownText, statusText, refusalText, outcomeText}
 use Rattle.harl.specs.Message.{Wrote}
 use Rattle.harl.proofs.Texts.{data-length}
 
@@ -64,11 +64,18 @@ unfolding statusText place
 status-length true n = (omega arith, omega arith)
 status-length false n = (omega arith, omega arith)
 
-pub outcome-length : (rule : Rule) (o : Outcome) → (1 ≤ length (outcomeText rule o)) × (length (outcomeText rule o) ≤ 17)
+pub refusal-length : (n : ℕ) (store : Bool) → length (refusalText n store) ≤ 3
+refusal-length n store = go (eqb n 9)
+  where
+    go : (t : Bool) → length (cond t unknownText (statusText store n)) ≤ 3
+    go true = omega arith
+    go false = status-length store n .1
+
+pub outcome-length : (store : Bool) (o : Outcome) → (1 ≤ length (outcomeText store o)) × (length (outcomeText store o) ≤ 17)
 unfolding outcomeText
-outcome-length rule (outcome.Data d) = data-length (contentOf d .kind) (contentOf d .row)
-outcome-length rule (outcome.Status n) =
-    let l = status-length (rule .store) n in
+outcome-length store (outcome.Data d) = data-length (contentOf d .kind) (contentOf d .row)
+outcome-length store (outcome.Status n) =
+    let l = status-length store n in
     (l .0, omega arith)
 
 -- the frame of such a body fits in the area that a writer asks for
@@ -78,7 +85,7 @@ frame-fits station body h = omega (arith, frame-length station body, shortest-sh
 -- ---- what a writer answers
 
 pub wrote-none : {n : ℕ} {xs : List ℕ} → Wrote (record { number = n; bytes = [] }) xs (record { number = n; length = 0 }) xs
-wrote-none = record { number = refl; length-is = refl; area = refl }
+wrote-none = record { number = refl; length-is = refl; fits = omega arith; area = refl }
 
-pub wrote-all : {bytes xs ys : List ℕ} {r : ℕ} → Put xs 0 bytes r ys → Wrote (record { number = 0; bytes = bytes }) xs (record { number = 0; length = r }) ys
-wrote-all p = record { number = refl; length-is = omega (arith, p .next); area = p .area }
+pub wrote-all : {n r : ℕ} {bytes xs ys : List ℕ} → Put xs 0 bytes r ys → length bytes ≤ length xs → Wrote (record { number = n; bytes = bytes }) xs (record { number = n; length = r }) ys
+wrote-all p fits = record { number = refl; length-is = omega (arith, p .next); fits = fits; area = p .area }

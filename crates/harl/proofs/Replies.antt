@@ -34,25 +34,9 @@ use Rattle.harl.proofs.Requests.{asked-ok}
 
 -- ---- a status
 
--- "00" is 0
-zero-text : (n : ℕ) → n ≤ 99 → same (twoDigits n) doneText ≡ true → n ≡ 0
-unfolding same place
-zero-text n h e =
-    let tens : ℕ = n / 10 % 10 + 48 in
-    let ones : ℕ = n / 1 % 10 + 48 in
-    let p = and-eq-true-iff (eqb tens 48) (eqb ones 48 && true) .0 e in
-    let q = and-eq-true-iff (eqb ones 48) true .0 (p .1) in
-    omega (arith, eqb-true tens 48 (p .0), eqb-true ones 48 (q .0))
-
--- which is tested first, and then any two digits are read
-status-or : (t : Bool) (n : ℕ) (c : Carried) → (t ≡ true → n ≡ 0) → c ≡ carried.Outcome (outcome.Status n) → cond t (carried.Outcome (outcome.Status 0)) c ≡ carried.Outcome (outcome.Status n)
-status-or true n c z e = rw (z refl)
-status-or false n c z e = e
-
 status-back : (n : ℕ) → n ≤ 99 → readStatus (twoDigits n) ≡ carried.Outcome (outcome.Status n)
 unfolding readStatus place
-status-back n h =
-    status-or (same (twoDigits n) doneText) n (asStatus (readWhole (twoDigits n))) (zero-text n h) (ap asStatus (read-two n (omega arith)))
+status-back n h = ap asStatus (read-two n (omega arith))
 
 -- ---- data
 
@@ -90,7 +74,7 @@ unfolding statusText readLoadOutcome
 status-outcome-back true k n h = status-back n h
 status-outcome-back false k n h = status-back n h
 
-outcome-back : (rule : Rule) (o : Outcome) → judgeOutcome rule o ≡ 0 → readOutcome rule (outcomeText rule o) ≡ carried.Outcome o
+outcome-back : (rule : Rule) (o : Outcome) → judgeOutcome rule o ≡ 0 → readOutcome rule (outcomeText (rule .store) o) ≡ carried.Outcome o
 unfolding judgeOutcome outcomeText dataFit
 outcome-back rule (outcome.Data d) e =
     let f = fitting rule d e in
@@ -103,10 +87,10 @@ unfolding statusText
 status-clean true n = two-skips isStray digit-clean n
 status-clean false n = skips-cons isStray 69 (twoDigits n) refl (two-skips isStray digit-clean n)
 
-outcome-clean : (rule : Rule) (o : Outcome) → Skips isStray (outcomeText rule o)
+outcome-clean : (store : Bool) (o : Outcome) → Skips isStray (outcomeText store o)
 unfolding outcomeText
-outcome-clean rule (outcome.Data d) = data-clean (contentOf d .kind) (contentOf d .row)
-outcome-clean rule (outcome.Status n) = status-clean (rule .store) n
+outcome-clean store (outcome.Data d) = data-clean (contentOf d .kind) (contentOf d .row)
+outcome-clean store (outcome.Status n) = status-clean store n
 
 -- ---- the frame
 
@@ -123,11 +107,11 @@ unfolding writeReply judgeReply readReply
 replies-read-back room st r o e =
     let j = checked-then (judgeAsked st r) (judgeOutcome (ruleFor r) o) (check-passed (ltb room 64) 1 _ (omega arith) e .1) in
     let a = asked-ok st r (j .0) in
-    let l = outcome-length (ruleFor r) o in
+    let l = outcome-length (ruleFor r .store) o in
     rw (
       e,
       j .0,
-      frame-back st (outcomeText (ruleFor r) o) (a .0 .0) (a .0 .1) (outcome-clean (ruleFor r) o) (l .0) (omega arith),
+      frame-back st (outcomeText (ruleFor r .store) o) (a .0 .0) (a .0 .1) (outcome-clean (ruleFor r .store) o) (l .0) (omega arith),
       eq-eqb st st refl,
       outcome-back (ruleFor r) o (j .1),
     )

@@ -1,5 +1,5 @@
 -- Requests and replies as whole frames (document 01, "Refusal numbers, in the order checked").
-use Prim.Native.Nat.{ℕ}
+use Prim.Native.Nat.{ℕ, _≤_}
 use mathlib.Core.Path.{_≡_}
 use mathlib.Core.Bool.{cond, _||_}
 use mathlib.Core.List.{List, []}
@@ -34,6 +34,14 @@ abbrev pub answeredNumber : Answered → ℕ
 answeredNumber (answered.Accepted o) = 0
 answeredNumber (answered.Refused n) = n
 
+abbrev pub judgedNumber : Judged → ℕ
+judgedNumber (judged.Accepted r) = 0
+judgedNumber (judged.Refused n store) = n
+
+abbrev pub carriedNumber : Carried → ℕ
+carriedNumber (carried.Outcome o) = 0
+carriedNumber carried.Nothing = 15
+
 -- the rule of a request's command
 abbrev pub ruleFor : Request → Rule
 ruleFor r = ruleOf (partsOf r .command)
@@ -58,6 +66,14 @@ requestIn o = cond (eqb (o .number) 0) (fromStation (o .station) (readBody (o .b
 unfoldable pub readRequest : List ℕ → Asked
 readRequest s = requestIn (readFrame s)
 
+-- the number of a slice read as a request: 2 to 7 of the frame, then 9 to 12 of its body
+abbrev pub requestNumber : Reading → ℕ
+requestNumber o = cond (eqb (o .number) 0) (judgedNumber (readBody (o .body))) (o .number)
+
+pub record RequestRead (s : List ℕ) (a : Asked) : Type 0 where
+  pub number-is : askedNumber a ≡ requestNumber (readFrame s)
+  pub answer-is : a ≡ readRequest s
+
 -- ---- writing
 
 -- what a writer gives: a refusal number, and the bytes of the frame, none where refused
@@ -72,6 +88,7 @@ message n bytes = record { number = n; bytes = cond (eqb n 0) bytes [] }
 pub record Wrote (m : Message) (before : List ℕ) (sent : Sent) (after : List ℕ) : Type 0 where
   pub number : sent .number ≡ m .number
   pub length-is : sent .length ≡ length (m .bytes)
+  pub fits : length (m .bytes) ≤ length before
   pub area : after ≡ sets before 0 (m .bytes)
 
 -- 1 ROOM, then 7, 11, 12
@@ -86,7 +103,7 @@ judgeReply room station r o =
     (cond (eqb (judgeAsked station r) 0) (judgeOutcome (ruleFor r) o) (judgeAsked station r))
 
 unfoldable pub writeReply : ℕ → ℕ → Request → Outcome → Message
-writeReply room station r o = message (judgeReply room station r o) (frameOf station (outcomeText (ruleFor r) o))
+writeReply room station r o = message (judgeReply room station r o) (frameOf station (outcomeText (ruleFor r .store) o))
 
 -- ---- reading a reply: 7, 11, 12 of the request, 2 to 7 of the slice, then 15
 
@@ -103,3 +120,16 @@ replyIn o station r =
 
 unfoldable pub readReply : List ℕ → ℕ → Request → Answered
 readReply s station r = cond (eqb (judgeAsked station r) 0) (replyIn (readFrame s) station r) (answered.Refused (judgeAsked station r))
+
+-- the number of a slice read as a reply: those of the request, 2 to 7 of the frame, then 15
+abbrev pub replyNumber : Reading → ℕ → Request → ℕ
+replyNumber o station r =
+    cond (eqb (judgeAsked station r) 0)
+    (cond (eqb (o .number) 0)
+    (cond (eqb (o .station) station) (carriedNumber (readOutcome (ruleFor r) (o .body))) 15)
+    (o .number))
+    (judgeAsked station r)
+
+pub record ReplyRead (s : List ℕ) (station : ℕ) (r : Request) (a : Answered) : Type 0 where
+  pub number-is : answeredNumber a ≡ replyNumber (readFrame s) station r
+  pub answer-is : a ≡ readReply s station r

@@ -22,7 +22,6 @@ use Rattle.harl.specs.declared.reply.Outcome.the-variants as outcome
 use Rattle.harl.specs.declared.reply.Carried.{Carried}
 use Rattle.harl.specs.declared.reply.Carried.the-variants as carried
 use Rattle.harl.specs.declared.reply.Content.{Content}
-use Rattle.commands.specs.Command.{same}
 use Rattle.commands.specs.Request.{one}
 use Rattle.harl.specs.Data.{allInRange, readData, dataText}
 
@@ -87,10 +86,10 @@ refusalText n store = cond (eqb n 9) unknownText (statusText store n)
 abbrev pub contentText : Content → List ℕ
 contentText c = dataText (c .kind) (c .row)
 
--- the data or the status of a reply
-unfoldable pub outcomeText : Rule → Outcome → List ℕ
-outcomeText rule (outcome.Data d) = contentText (contentOf d)
-outcomeText rule (outcome.Status n) = statusText (rule .store) n
+-- the data or the status of a reply, to an SN or not
+unfoldable pub outcomeText : Bool → Outcome → List ℕ
+outcomeText store (outcome.Data d) = contentText (contentOf d)
+outcomeText store (outcome.Status n) = statusText store n
 
 -- ---- reading
 
@@ -98,11 +97,9 @@ abbrev pub asStatus : Whole → Carried
 asStatus (whole.Value v) = carried.Outcome (outcome.Status v)
 asStatus whole.Malformed = carried.Nothing
 
--- any two digits; "00" means done
+-- any two digits
 unfoldable pub readStatus : List ℕ → Carried
-readStatus s =
-    cond (same s doneText) (carried.Outcome (outcome.Status 0))
-    (cond (eqb (length s) 2) (asStatus (readWhole s)) carried.Nothing)
+readStatus s = cond (eqb (length s) 2) (asStatus (readWhole s)) carried.Nothing
 
 -- data within the command's data range
 abbrev pub asData : Kind → Values → Carried

@@ -17,7 +17,7 @@ use frame::writer::close_frame;
 use frame::writer::open_frame;
 ghost use mathlib.Core.Path.{_≡_};
 ghost use lib.ListN.{length};
-ghost use Rattle.harl.specs.Message.{judgeAsked, readRequest, writeRequest, writeReply, readReply, Wrote};
+ghost use Rattle.harl.specs.Message.{judgeAsked, RequestRead, writeRequest, writeReply, ReplyRead, Wrote};
 
 // What a slice is as a request: its station and the request, or the number of its refusal.
 pub enum Asked {
@@ -57,7 +57,7 @@ fn judge_asked(station: u8, request: Request) -> u8
 
 // Reads a request: checks 2 to 7, then 9 to 12.
 pub fn read_request(slice: &[u8]) -> Asked
-    ensures { λ r. ⌜ r ≡ readRequest (now (slice .entry)) ⌝ }
+    ensures { λ r. ⌜ RequestRead (now (slice .entry)) r ⌝ }
 {
     let mut number: u8 = 0;
     let mut station: u8 = 0;
@@ -117,14 +117,14 @@ pub fn write_reply(area: &mut [u8], station: u8, request: Request, outcome: Outc
         return Sent { number, length: 0 };
     }
     let at = open_frame(area, station);
-    let end = put_outcome(area, at, rule, outcome);
+    let end = put_outcome(area, at, rule.store, outcome);
     let length = close_frame(area, end);
     Sent { number: 0, length }
 }
 
 // Reads the reply to a request: checks 7, 11 and 12 of the request, 2 to 7 of the slice, then 15.
 pub fn read_reply(slice: &[u8], station: u8, request: Request) -> Answered
-    ensures { λ r. ⌜ r ≡ readReply (now (slice .entry)) station request ⌝ }
+    ensures { λ r. ⌜ ReplyRead (now (slice .entry)) station request r ⌝ }
 {
     let asked = judge_asked(station, request);
     if asked != 0 {

@@ -171,14 +171,14 @@ pub fn put_held(area: &mut [u8], at: usize, held: Data) -> usize
     put_data(area, at, kind, row)
 }
 
-// Writes what a reply carries.
-pub fn put_outcome(area: &mut [u8], at: usize, rule: Rule, outcome: Outcome) -> usize
-    requires { ⌜ at + length (outcomeText rule outcome) ≤ length (now area) ⌝ }
-    ensures { λ r. ⌜ Put (now (area .entry)) at (outcomeText rule outcome) r (now (area .exit)) ⌝ }
+// Writes what a reply to an SN (`store`) or to an LN carries.
+pub fn put_outcome(area: &mut [u8], at: usize, store: bool, outcome: Outcome) -> usize
+    requires { ⌜ at + length (outcomeText store outcome) ≤ length (now area) ⌝ }
+    ensures { λ r. ⌜ Put (now (area .entry)) at (outcomeText store outcome) r (now (area .exit)) ⌝ }
 {
     match outcome {
         Outcome::Data(held) => put_held(area, at, held),
-        Outcome::Status(n) => put_status(area, at, rule.store, n),
+        Outcome::Status(n) => put_status(area, at, store, n),
     }
 }
 
@@ -203,6 +203,9 @@ fn read_status(s: &[u8]) -> Carried
 fn read_load_outcome(kind: Kind, body: &[u8]) -> Carried
     ensures { λ r. ⌜ r ≡ readLoadOutcome kind (now (body .entry)) ⌝ }
 {
+    if is_same(body, &UNKNOWN) {
+        return Carried::Outcome(Outcome::Status(9));
+    }
     if 0 < body.len() {
         if body[0] == b'E' {
             return read_status(&body[1..]);

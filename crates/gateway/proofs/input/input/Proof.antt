@@ -29,11 +29,14 @@ returns-2 : tie.Need-returns-2
 unfolding decide
 returns-2 c = turns-away _ _ _ _ (rw (le-ltb _ _ (c .before .before .if1 .left), eq-eqb _ _ (c .if2 .taken)))
 
+cast-p : tie.Need-cast-p
+cast-p c = search needs
+
 returns-3 : tie.Need-returns-3
 unfolding decide
 returns-3 c =
     turns-away _ _ _ _
-    (rw (le-ltb _ _ (c .before .before .before .if1 .left), ne-eqb _ _ (c .before .if2 .left), lt-ltb _ _ (c .if3 .taken)))
+    (rw (le-ltb _ _ (c .before .before .before .before .if1 .left), ne-eqb _ _ (c .before .before .if2 .left), lt-ltb _ _ (c .if3 .taken)))
 
 mul-inputs : tie.Need-mul-inputs
 mul-inputs c = search needs
@@ -48,7 +51,7 @@ returns-4 : tie.Need-returns-4
 unfolding decide
 returns-4 c =
     puts _ _ _ _
-    (rw (le-ltb _ _ (c .before .before .before .if1 .left), ne-eqb _ _ (c .before .if2 .left), le-ltb _ _ (c .if3 .left)))
+    (rw (le-ltb _ _ (c .before .before .before .before .if1 .left), ne-eqb _ _ (c .before .before .if2 .left), le-ltb _ _ (c .if3 .left)))
 
 pub input-spec : {M : Type 1} → statement M
 input-spec =
@@ -57,6 +60,7 @@ input-spec =
     returns
     element-copy-out-if2
     returns-2
+    cast-p
     returns-3
     mul-inputs
     index-1-inputs

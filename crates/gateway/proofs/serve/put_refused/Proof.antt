@@ -1,23 +1,14 @@
 -- `o` is where the frame was opened, `b` where its body was put, and `f` where it was closed.
-use Prim.Native.Nat.{ℕ, _≤_}
-use mathlib.Core.Bool.{Bool, true, false, cond}
+use Prim.Native.Nat.{_≤_}
 use native.Mathlib.Omega.{arith}
 use borrow.Author.Needs.{needs}
-use lib.Dec.{eqb}
 use lib.ListN.{length}
 use Rattle.text.proofs.Digits.{shortest-short}
 use Rattle.frame.proofs.Writing.{opening-length, framed}
-use Rattle.harl.specs.Reply.{unknownText, statusText, refusalText}
-use Rattle.harl.proofs.Bodies.{status-length, frame-fits}
+use Rattle.harl.specs.Reply.{refusalText}
+use Rattle.harl.proofs.Bodies.{refusal-length, frame-fits}
 use Rattle.gateway.proofs.serve.put_refused.Statement.{statement}
 use Rattle.gateway.proofs.serve.put_refused.Tie as tie
-
-refusal-length : (n : ℕ) (store : Bool) → length (refusalText n store) ≤ 3
-refusal-length n store = go (eqb n 9)
-  where
-    go : (t : Bool) → length (cond t unknownText (statusText store n)) ≤ 3
-    go true = omega arith
-    go false = status-length store n .1
 
 open-frame-requires : tie.Need-open-frame-requires
 open-frame-requires c κs =

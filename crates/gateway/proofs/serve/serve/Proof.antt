@@ -8,6 +8,7 @@ use borrow.Author.Tests.{lt-ltb, le-ltb, eq-eqb, ne-eqb}
 use lib.ListN.{length}
 use Rattle.frame.specs.Frame.{Read, readFrame}
 use Rattle.harl.specs.declared.message.Sent.{Sent}
+use Rattle.harl.proofs.Bodies.{wrote-none}
 use Rattle.tables.specs.Tables.{Tables}
 use Rattle.gateway.specs.declared.serve.Found.the-variants as found
 use Rattle.model.specs.Call.{serve}
@@ -56,7 +57,7 @@ module _ {st slice xs : List ℕ} {t : Tables} where
   unfolding answer after perform respond
   turned-served e =
       record {
-        answer-is = rw e (record { number-is = refl; length-is = refl; area-is = refl });
+        answer-is = rw e wrote-none;
         tables-are = rw e;
       }
 

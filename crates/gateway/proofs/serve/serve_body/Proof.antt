@@ -1,10 +1,11 @@
 -- `b` is where the body was read, `v` what it was judged, `p` where the request was performed, and `w` where the reply was put.
-use Prim.Native.Nat.{ℕ}
+use Prim.Native.Nat.{ℕ, _≤_}
 use mathlib.Core.Path.{_≡_, refl, sym, _∙_}
 use mathlib.Core.Bool.{Bool, true}
 use mathlib.Core.List.{List}
 use native.Mathlib.Omega.{arith}
 use borrow.Author.Needs.{needs}
+use lib.ListN.{length}
 use Rattle.text.specs.Put.{Put}
 use Rattle.text.specs.Whole.{place}
 use Rattle.frame.specs.Frame.{frameOf}
@@ -13,25 +14,23 @@ use Rattle.commands.specs.declared.request.Request.the-variants as request
 use Rattle.harl.specs.declared.body.Judged.the-variants.{Accepted, Refused}
 use Rattle.harl.specs.declared.reply.Outcome.{Outcome}
 use Rattle.harl.specs.Body.{readBody}
-use Rattle.harl.specs.Reply.{statusText, doneText, refusalText}
+use Rattle.harl.specs.Reply.{statusText, doneText, outcomeText, refusalText}
+use Rattle.harl.specs.Message.{Wrote}
 use Rattle.tables.specs.Tables.{Tables, performed, answered, Performed}
 use Rattle.model.specs.Box.{asked, performTables, respond}
-use Rattle.gateway.specs.Entries.{box, Given, repliedText, BodyServed}
+use Rattle.gateway.specs.Entries.{box, BodyServed}
 use Rattle.harl.proofs.Accepted.{accepted-in-range}
+use Rattle.harl.proofs.Bodies.{outcome-length, refusal-length, frame-fits, wrote-all}
 use Rattle.gateway.proofs.serve.serve_body.Statement.{statement}
 use Rattle.gateway.proofs.serve.serve_body.Tie as tie
-
--- what was put at the front of the area is the reply
-put-given : {n r : ℕ} {bytes xs ys : List ℕ} → Put xs 0 bytes r ys → Given (record { number = n; reply = bytes }) xs (record { number = n; length = r }) ys
-put-given p = record { number-is = refl; length-is = omega (arith, p .next); area-is = p .area }
 
 done-is : statusText true 0 ≡ doneText
 unfolding statusText place
 done-is = refl
 
 -- a request is answered with what performing it answers
-asked-answer : (st : List ℕ) (t : Tables) (k s : ℕ) (r : Request) → respond (box st t) (asked k s r) ≡ record { number = 0; reply = frameOf s (repliedText (answered k r t)) }
-unfolding respond
+asked-answer : (st : List ℕ) (t : Tables) (k s : ℕ) (r : Request) → respond (box st t) (asked k s r) ≡ record { number = 0; reply = frameOf s (outcomeText true (answered k r t)) }
+unfolding respond outcomeText
 asked-answer st t k s (request.Load l) = refl
 asked-answer st t k s (request.Store q) = rw done-is
 
@@ -39,17 +38,25 @@ asked-tables : (t : Tables) (k s : ℕ) (r : Request) → performTables t (asked
 asked-tables t k s (request.Load l) = refl
 asked-tables t k s (request.Store q) = refl
 
-module _ {k s : ℕ} {body : List ℕ} {t : Tables} {xs ys : List ℕ} {m : ℕ} where
-  asked-served : {r : Request} {o : Outcome} {t′ : Tables} → readBody body ≡ Accepted r → Performed k r t t′ o → Put xs 0 (frameOf s (repliedText o)) m ys → BodyServed k s body t xs (record { number = 0; length = m }) t′ ys
-  asked-served {r} e p w =
+-- what was put at the front of the area is the reply, and had room
+put-wrote : {n m : ℕ} {xs ys : List ℕ} (s : ℕ) (text : List ℕ) → length text ≤ 17 → 64 ≤ length xs → Put xs 0 (frameOf s text) m ys → Wrote (record { number = n; bytes = frameOf s text }) xs (record { number = n; length = m }) ys
+put-wrote s text short room w = wrote-all w (omega (arith, frame-fits s text (omega arith)))
+
+module _ {k s : ℕ} {body : List ℕ} {t : Tables} {xs ys : List ℕ} {m : ℕ} (room : 64 ≤ length xs) where
+  asked-served : {r : Request} {o : Outcome} {t′ : Tables} → readBody body ≡ Accepted r → Performed k r t t′ o → Put xs 0 (frameOf s (outcomeText true o)) m ys → BodyServed k s body t xs (record { number = 0; length = m }) t′ ys
+  asked-served {r} {o} e p w =
       record {
-        answer-is = λ st. rw (e, asked-answer st t k s r, ← p .answer) (put-given w);
+        answer-is = λ st. rw (e, asked-answer st t k s r, ← p .answer) (put-wrote s (outcomeText true o) (outcome-length true o .1) room w);
         tables-are = rw (e, asked-tables t k s r) (p .tables);
       }
 
   refused-served : {n : ℕ} {store : Bool} → readBody body ≡ Refused n store → Put xs 0 (frameOf s (refusalText n store)) m ys → BodyServed k s body t xs (record { number = n; length = m }) t ys
   unfolding respond
-  refused-served e w = record { answer-is = λ st. rw e (put-given w); tables-are = rw e }
+  refused-served {n} {store} e w =
+      record {
+        answer-is = λ st. rw e (put-wrote s (refusalText n store) (omega (arith, refusal-length n store)) room w);
+        tables-are = rw e;
+      }
 
 read-body-requires : tie.Need-read-body-requires
 read-body-requires c κs = search needs
@@ -82,7 +89,7 @@ returns c =
     let p = w .before .before in
     let v = p .before .before .before .before .before .before .before .before .before in
     let b = v .before .before in
-    asked-served (sym (b .read-body .ensures) ∙ v .judged .given .1) (p .perform .ensures) (w .put-reply .ensures)
+    asked-served (b .before .before .before .pre .1) (sym (b .read-body .ensures) ∙ v .judged .given .1) (p .perform .ensures) (w .put-reply .ensures)
 
 same-length-2 : tie.Need-same-length-2
 same-length-2 c = search needs
@@ -92,7 +99,7 @@ returns-2 c =
     let w = c .before .before in
     let v = w .before .before .before in
     let b = v .before .before in
-    refused-served (sym (b .read-body .ensures) ∙ v .judged2 .given .1) (w .put-refused .ensures)
+    refused-served (b .before .before .before .pre .1) (sym (b .read-body .ensures) ∙ v .judged2 .given .1) (w .put-refused .ensures)
 
 pub serve-body-spec : {M : Type 1} → statement M
 serve-body-spec =

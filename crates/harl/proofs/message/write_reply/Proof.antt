@@ -6,6 +6,7 @@ use borrow.Author.Needs.{needs}
 use borrow.Author.Tests.{lt-ltb, le-ltb, eq-eqb, ne-eqb}
 use lib.ListN.{length}
 use Rattle.text.proofs.Digits.{shortest-short}
+use Rattle.frame.specs.Frame.{frameOf}
 use Rattle.frame.proofs.Writing.{opening-length, framed}
 use Rattle.harl.specs.Reply.{judgeOutcome, outcomeText}
 use Rattle.harl.specs.Message.{judgeReply, writeReply}
@@ -54,7 +55,7 @@ put-outcome-requires c κs =
     let o = c .before .before .before in
     let v = o .before .before .before in
     let a = v .before .before .before .before .before .before .before .args in
-    omega (arith, opening-length (a .station), shortest-short (a .station), outcome-length (v .before .rule-of .result) (a .outcome) .1, o .open-frame .kept .0, o .open-frame .ensures .next)
+    omega (arith, opening-length (a .station), shortest-short (a .station), outcome-length (v .before .rule-of .result .store) (a .outcome) .1, o .open-frame .kept .0, o .open-frame .ensures .next)
 
 close-frame-requires : tie.Need-close-frame-requires
 close-frame-requires c κs =
@@ -62,7 +63,7 @@ close-frame-requires c κs =
     let o = b .before .before .before .before in
     let v = o .before .before .before in
     let a = v .before .before .before .before .before .before .before .args in
-    omega (arith, opening-length (a .station), shortest-short (a .station), outcome-length (v .before .rule-of .result) (a .outcome) .1, o .open-frame .kept .0, o .open-frame .ensures .next, b .put-outcome .kept .0, b .put-outcome .ensures .next)
+    omega (arith, opening-length (a .station), shortest-short (a .station), outcome-length (v .before .rule-of .result .store) (a .outcome) .1, o .open-frame .kept .0, o .open-frame .ensures .next, b .put-outcome .kept .0, b .put-outcome .ensures .next)
 
 same-length : tie.Need-same-length
 same-length c = search needs
@@ -79,9 +80,10 @@ returns-4 c =
     let a = j .before .before .before .args in
     let rule = v .before .rule-of .result in
     let z : judgeOutcome rule (a .outcome) ≡ 0 = sym (v .judge-outcome .ensures) ∙ o .before .before .if3 .left in
-    let short : length (outcomeText rule (a .outcome)) ≤ 27 = omega (arith, outcome-length rule (a .outcome) .1) in
+    let short : length (outcomeText (rule .store) (a .outcome)) ≤ 27 = omega (arith, outcome-length (rule .store) (a .outcome) .1) in
     rw (le-ltb _ _ (j .before .if1 .left), ← j .judge-asked .ensures, eq-eqb _ _ (p .before .if2 .left), ← p .parts-of .ensures, ← v .before .rule-of .ensures, z)
-    (wrote-all (framed (a .station) (o .open-frame .ensures) (b .put-outcome .ensures) (f .close-frame .ensures) (omega (arith, frame-fits (a .station) (outcomeText rule (a .outcome)) short))))
+    (let fits : length (frameOf (a .station) (outcomeText (rule .store) (a .outcome))) ≤ length (a .area .now) = omega (arith, frame-fits (a .station) (outcomeText (rule .store) (a .outcome)) short) in
+    wrote-all (framed (a .station) (o .open-frame .ensures) (b .put-outcome .ensures) (f .close-frame .ensures) fits) fits)
 
 pub write-reply-spec : {M : Type 1} → statement M
 write-reply-spec =

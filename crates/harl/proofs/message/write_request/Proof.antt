@@ -1,9 +1,12 @@
 -- `j` is where the request was judged, `o` where the frame was opened, `p` where the request was taken apart, `b` where the body was put, and `f` where the frame was closed.
+use Prim.Native.Nat.{_≤_}
 use mathlib.Core.Path.{_≡_, sym, _∙_}
 use native.Mathlib.Omega.{arith}
 use borrow.Author.Needs.{needs}
 use borrow.Author.Tests.{lt-ltb, le-ltb, ne-eqb}
 use Rattle.text.proofs.Digits.{shortest-short}
+use lib.ListN.{length}
+use Rattle.frame.specs.Frame.{frameOf}
 use Rattle.frame.proofs.Writing.{opening-length, framed}
 use Rattle.harl.specs.Body.{bodyText}
 use Rattle.harl.specs.Message.{writeRequest, judgeAsked}
@@ -60,7 +63,8 @@ returns-3 c =
     let a = j .before .before .before .args in
     let z : judgeAsked (a .station) (a .request) ≡ 0 = sym (j .judge-asked .ensures) ∙ o .before .before .if2 .left in
     rw (le-ltb _ _ (j .before .if1 .left), z, ← p .parts-of .ensures)
-    (wrote-all (framed (a .station) (o .open-frame .ensures) (b .put-body .ensures) (f .close-frame .ensures) (omega (arith, frame-fits (a .station) (bodyText (p .parts-of .result)) (body-length (p .parts-of .result) .1)))))
+    (let fits : length (frameOf (a .station) (bodyText (p .parts-of .result))) ≤ length (a .area .now) = omega (arith, frame-fits (a .station) (bodyText (p .parts-of .result)) (body-length (p .parts-of .result) .1)) in
+    wrote-all (framed (a .station) (o .open-frame .ensures) (b .put-body .ensures) (f .close-frame .ensures) fits) fits)
 
 pub write-request-spec : {M : Type 1} → statement M
 write-request-spec =

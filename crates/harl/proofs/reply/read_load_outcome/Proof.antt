@@ -1,5 +1,5 @@
 use Prim.Native.Nat.{_-_}
-use mathlib.Core.Path.{_≡_, sym, _∙_}
+use mathlib.Core.Path.{_≡_, refl, sym, _∙_}
 use mathlib.Core.Bool.{false}
 use mathlib.Core.Logic.{⊎-elim}
 use native.Mathlib.Omega.{arith}
@@ -8,21 +8,42 @@ use borrow.Author.Tests.{eq-eqb, ne-eqb}
 use lib.Dec.{eqb}
 use lib.ListN.{length, getD, drop, length-drop, List·getD-eq-default}
 use lib.Seq.{take-all}
-use Rattle.harl.specs.Reply.{asData, readLoadOutcome}
+use Rattle.text.specs.Whole.{digitsOnto, readWhole}
+use Rattle.commands.specs.declared.command.Kind.{Kind}
+use Rattle.harl.specs.declared.reply.Outcome.the-variants as outcome
+use Rattle.harl.specs.declared.reply.Carried.the-variants as carried
+use Rattle.harl.specs.Reply.{unknownText, asData, readStatus, readLoadOutcome}
+use Rattle.harl.proofs.Laws.{same-is}
 use Rattle.harl.proofs.reply.read_load_outcome.Statement.{statement}
 use Rattle.harl.proofs.reply.read_load_outcome.Tie as tie
 
+-- "E09" is the status 9
+unknown : (k : Kind) → readLoadOutcome k unknownText ≡ carried.Outcome (outcome.Status 9)
+unfolding readLoadOutcome readStatus readWhole digitsOnto
+unknown k = refl
+
 -- no "E" stands first
-no-e : (c : tie.Joined1) → eqb (getD (c .before .before .args .body .now) 0 0) 69 ≡ false
-no-e c = ⊎-elim (λ w. ne-eqb _ _ (w .2 .left)) (λ w. rw (List·getD-eq-default (c .before .before .args .body .now) 0 {n = 0} (w .left))) (c .if1 .came)
+no-e : (c : tie.Joined2) → eqb (getD (c .before .before .before .before .before .args .body .now) 0 0) 69 ≡ false
+no-e c =
+    let s = c .before .before .before .before .before .args .body .now in
+    ⊎-elim (λ w. ne-eqb _ _ (w .2 .left)) (λ w. rw (List·getD-eq-default s 0 {n = 0} (w .left))) (c .if2 .came)
 
 -- so that the data decide
-held : (c : tie.After-read-data) → asData (c .before .before .before .args .kind) (c .read-data .result) ≡ readLoadOutcome (c .before .before .before .args .kind) (c .before .before .before .args .body .now)
+held : (c : tie.After-read-data) → asData (c .before .before .before .before .before .before .args .kind) (c .read-data .result) ≡ readLoadOutcome (c .before .before .before .before .before .before .args .kind) (c .before .before .before .before .before .before .args .body .now)
 unfolding readLoadOutcome
 held c = rw (no-e (c .before), ← c .read-data .ensures)
 
-shared-slice-read-if2 : tie.Need-shared-slice-read-if2
-shared-slice-read-if2 c = search needs
+slice-aggregate-is-same : tie.Need-slice-aggregate-is-same
+slice-aggregate-is-same c = search needs
+
+is-same-requires : tie.Need-is-same-requires
+is-same-requires c κs = search needs
+
+returns : tie.Need-returns
+returns c = rw (same-is _ unknownText (sym (c .before .is-same .ensures) ∙ c .if1 .taken), unknown _)
+
+shared-slice-read-if3 : tie.Need-shared-slice-read-if3
+shared-slice-read-if3 c = search needs
 
 sub-read-status : tie.Need-sub-read-status
 sub-read-status c = search needs
@@ -36,11 +57,12 @@ part-read-status-end c = search needs
 read-status-requires : tie.Need-read-status-requires
 read-status-requires c κs = search needs
 
-returns : tie.Need-returns
+returns-2 : tie.Need-returns-2
 unfolding readLoadOutcome
-returns c =
-    let s = c .before .before .before .before .before .before .args .body .now in
-    rw (eq-eqb _ _ (c .before .before .if2 .taken), ← take-all (length s - 1) (drop 1 s) (simp length-drop (omega arith))) (c .read-status .ensures)
+returns-2 c =
+    let t = c .before .before in
+    let s = t .before .before .before .before .before .before .before .args .body .now in
+    rw (eq-eqb _ _ (t .if3 .taken), ← take-all (length s - 1) (drop 1 s) (simp length-drop (omega arith))) (c .read-status .ensures)
 
 read-data-requires : tie.Need-read-data-requires
 read-data-requires c κs = search needs
@@ -54,37 +76,40 @@ all-in-range-requires c κs = search needs
 data-of-requires : tie.Need-data-of-requires
 data-of-requires c κs = search needs
 
-returns-2 : tie.Need-returns-2
-returns-2 c =
+returns-3 : tie.Need-returns-3
+returns-3 c =
     let v = c .before .before .before .before in
-    rw (v .values .given .1, sym (c .before .before .all-in-range .ensures) ∙ c .before .if3 .taken, ← c .data-of .ensures) at (held (v .before .before))
+    rw (v .values .given .1, sym (c .before .before .all-in-range .ensures) ∙ c .before .if4 .taken, ← c .data-of .ensures) at (held (v .before .before))
 
 enum-told : tie.Need-enum-told
 enum-told c = search needs
 
-returns-3 : tie.Need-returns-3
-returns-3 c =
-    let v = c .before .before .before in
-    rw (v .values .given .1, sym (c .before .all-in-range .ensures) ∙ c .if3 .left) at (held (v .before .before))
-
 returns-4 : tie.Need-returns-4
-returns-4 c = rw (c .enum-told .given .1) at (held (c .before .before))
+returns-4 c =
+    let v = c .before .before .before in
+    rw (v .values .given .1, sym (c .before .all-in-range .ensures) ∙ c .if4 .left) at (held (v .before .before))
+
+returns-5 : tie.Need-returns-5
+returns-5 c = rw (c .enum-told .given .1) at (held (c .before .before))
 
 pub read-load-outcome-spec : {M : Type 1} → statement M
 read-load-outcome-spec =
     tie.close
     (tie.spec
-    shared-slice-read-if2
+    slice-aggregate-is-same
+    is-same-requires
+    returns
+    shared-slice-read-if3
     sub-read-status
     part-read-status-start
     part-read-status-end
     read-status-requires
-    returns
+    returns-2
     read-data-requires
     enum-known-values
     all-in-range-requires
     data-of-requires
-    returns-2
-    enum-told
     returns-3
-    returns-4)
+    enum-told
+    returns-4
+    returns-5)

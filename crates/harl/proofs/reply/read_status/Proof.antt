@@ -1,14 +1,17 @@
 use Prim.Native.Nat.{ℕ, _<_}
-use mathlib.Core.Path.{_≡_, sym, _∙_}
+use mathlib.Core.Path.{_≡_, refl, sym, _∙_}
 use mathlib.Core.List.{List}
 use native.Mathlib.Omega.{arith}
 use borrow.Author.Needs.{needs}
 use borrow.Author.Tests.{eq-eqb, ne-eqb}
 use lib.ListN.{length}
 use Rattle.text.specs.declared.whole.Whole.the-variants.{Value}
-use Rattle.text.specs.Whole.{readWhole}
+use Rattle.text.specs.Whole.{digitsOnto, readWhole}
 use Rattle.text.proofs.Decimals.{whole-below}
-use Rattle.harl.specs.Reply.{asStatus, readStatus}
+use Rattle.harl.specs.declared.reply.Outcome.the-variants as outcome
+use Rattle.harl.specs.declared.reply.Carried.the-variants as carried
+use Rattle.harl.specs.Reply.{doneText, asStatus, readStatus}
+use Rattle.harl.proofs.Laws.{same-is}
 use Rattle.harl.proofs.reply.read_status.Statement.{statement}
 use Rattle.harl.proofs.reply.read_status.Tie as tie
 
@@ -16,10 +19,15 @@ use Rattle.harl.proofs.reply.read_status.Tie as tie
 two-small : (s : List ℕ) (v : ℕ) → length s ≡ 2 → readWhole s ≡ Value v → v < 100
 two-small s v h e = rw (h, e) at (whole-below s)
 
--- two bytes that are not "00" are what the number is
+-- two bytes are what the number is
 numbered : (c : tie.After-read-whole) → asStatus (c .read-whole .result) ≡ readStatus (c .before .before .before .before .before .before .args .s .now)
 unfolding readStatus
-numbered c = rw (sym (c .before .before .before .is-same .ensures) ∙ c .before .before .if1 .left, eq-eqb _ _ (c .before .if2 .left), ← c .read-whole .ensures)
+numbered c = rw (eq-eqb _ _ (c .before .if2 .left), ← c .read-whole .ensures)
+
+-- "00" is the status 0
+done : readStatus doneText ≡ carried.Outcome (outcome.Status 0)
+unfolding readStatus readWhole digitsOnto
+done = refl
 
 slice-aggregate-is-same : tie.Need-slice-aggregate-is-same
 slice-aggregate-is-same c = search needs
@@ -28,12 +36,11 @@ is-same-requires : tie.Need-is-same-requires
 is-same-requires c κs = search needs
 
 returns : tie.Need-returns
-unfolding readStatus
-returns c = rw (sym (c .before .is-same .ensures) ∙ c .if1 .taken)
+returns c = rw (same-is _ doneText (sym (c .before .is-same .ensures) ∙ c .if1 .taken), done)
 
 returns-2 : tie.Need-returns-2
 unfolding readStatus
-returns-2 c = rw (sym (c .before .before .is-same .ensures) ∙ c .before .if1 .left, ne-eqb _ _ (c .if2 .taken))
+returns-2 c = rw (ne-eqb _ _ (c .if2 .taken))
 
 read-whole-requires : tie.Need-read-whole-requires
 read-whole-requires c κs = search needs
