@@ -23,7 +23,7 @@ pub record SetUp (want : List ℕ) (number : ℕ) (st : List ℕ) (t : Tables) :
   pub tables-are : t ≡ setup want .tables
 
 -- an input call: the number and every table
-pub record Sensed (b : Box) (slot port byte : ℕ) (number : ℕ) (t : Tables) : Type 0 where
+pub record InputSet (b : Box) (slot port byte : ℕ) (number : ℕ) (t : Tables) : Type 0 where
   pub number-is : number ≡ answer b (input slot port byte) .number
   pub tables-are : t ≡ after b (input slot port byte) .tables
 

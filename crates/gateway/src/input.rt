@@ -1,7 +1,7 @@
 // Input calls: a byte put into an input port, as the arm's wiring does.
 use commands::request::Port;
 ghost use Rattle.tables.specs.Tables.{tables};
-ghost use Rattle.gateway.specs.Entries.{Sensed, box};
+ghost use Rattle.gateway.specs.Entries.{InputSet, box};
 
 // Puts a byte into an input port of slot's arm. Refused, with number 14: a slot above 3 or unfitted, or a
 // port above 31.
@@ -18,7 +18,7 @@ pub fn input(
     port: Port,
     byte: u8,
 ) -> u8
-    ensures { λ r. ⌜ Sensed (box (now (stations .entry)) (tables (now (timers .entry)) (now (registers .entry)) (now (x .entry)) (now (y .entry)) (now (inputs .entry)) (now (outputs .entry)) (now (memory .entry)))) slot (port .0) byte r (tables (now (timers .exit)) (now (registers .exit)) (now (x .exit)) (now (y .exit)) (now (inputs .exit)) (now (outputs .exit)) (now (memory .exit))) ⌝ }
+    ensures { λ r. ⌜ InputSet (box (now (stations .entry)) (tables (now (timers .entry)) (now (registers .entry)) (now (x .entry)) (now (y .entry)) (now (inputs .entry)) (now (outputs .entry)) (now (memory .entry)))) slot (port .0) byte r (tables (now (timers .exit)) (now (registers .exit)) (now (x .exit)) (now (y .exit)) (now (inputs .exit)) (now (outputs .exit)) (now (memory .exit))) ⌝ }
 {
     if 3 < slot {
         return 14;

@@ -4,6 +4,7 @@ use Prim.Native.Nat.{ℕ, _<_}
 use mathlib.Core.Path.{_≡_, refl, sym, ap}
 use native.Mathlib.Nat.{sub-zero}
 use lib.ListN.{getD}
+use Rattle.text.specs.Whole.{place}
 use Rattle.frame.specs.Frame.{readFrame}
 use Rattle.commands.specs.declared.request.Load.{Load}
 use Rattle.commands.specs.declared.request.Load.the-variants as load
@@ -13,10 +14,11 @@ use Rattle.commands.specs.declared.request.Request.the-variants as request
 use Rattle.harl.specs.declared.body.Judged.{Judged}
 use Rattle.harl.specs.declared.body.Judged.the-variants as judged
 use Rattle.harl.specs.Body.{readBody}
+use Rattle.harl.specs.Reply.{statusText, outcomeText}
 use Rattle.tables.specs.Tables.{loaded, stored}
 use Rattle.model.specs.Call.{Call, serve, input}
-use Rattle.model.specs.Box.{Box, at, Decision, turned, refused, asked, sensed, decideBody, perform, respond}
-use Rattle.model.specs.Lone.{holds, replaced, Step, hear, step}
+use Rattle.model.specs.Box.{Box, at, Decision, unanswered, refused, asked, inputSet, decideBody, perform, respond}
+use Rattle.model.specs.Lone.{holds, replaced, Step, answerBody, step}
 use Rattle.model.specs.Addressed.{eventOf, armOf}
 use Rattle.model.specs.Shaped.{Shaped}
 use Rattle.model.proofs.Laws.{row-other, row-same}
@@ -55,8 +57,8 @@ module _ (b : Box) (k : ℕ) (h : Shaped (b .tables)) (l : k < 4) where
   stored-same (store.MemoryBit g v) = search row-same
   stored-same (store.MemoryPort p v) = search row-same
 
-  body-same : (own : ℕ) (j : Judged) → Agrees b k (decideBody k own j) (hear own (armOf k b) j)
-  unfolding perform respond
+  body-same : (own : ℕ) (j : Judged) → Agrees b k (decideBody k own j) (answerBody own (armOf k b) j)
+  unfolding perform respond outcomeText statusText place
   body-same own (judged.Accepted (request.Load q)) = record { arm = refl; answer = rw (loaded-same q) }
   body-same own (judged.Accepted (request.Store q)) = record { arm = stored-same q; answer = refl }
   body-same own (judged.Refused n q) = record { arm = refl; answer = refl }
@@ -81,8 +83,8 @@ module _ (b : Box) (k : ℕ) where
 
   pub other : (d : Decision) → (concerns d ≡ at k → ⊥) → armOf k (perform b d) ≡ armOf k b
   unfolding perform
-  other (turned n) h = refl
+  other (unanswered n) h = refl
   other (refused j s n q) h = refl
   other (asked j s (request.Load l)) h = refl
   other (asked j s (request.Store q)) h = stored-other j q (λ e. h (ap at (sym e)))
-  other (sensed j p v) h = rw (row-other (b .tables .inputs) j k p v (λ e. h (ap at (sym e))))
+  other (inputSet j p v) h = let ne : k ≡ j → ⊥ = λ e. h (ap at (sym e)) in simp row-other

@@ -6,8 +6,8 @@ use mathlib.Core.List.{List, [], _∷_}
 use lib.ListN.{getD, getD-replicate}
 use Rattle.tables.specs.Tables.{Tables, zeros}
 use Rattle.model.specs.Call.{Call}
-use Rattle.model.specs.Box.{Box, setup, Slot, nowhere, at, Decision, turned, refused, asked, sensed, decide, performTables, perform, after, answer, run}
-use Rattle.model.specs.Lone.{Arm, blank, Event, step, runLone, answersLone}
+use Rattle.model.specs.Box.{Box, setup, Slot, nowhere, at, Decision, unanswered, refused, asked, inputSet, decide, performTables, perform, respond, after, answer, run}
+use Rattle.model.specs.Lone.{Arm, zeroArm, Event, step, runLone, answersLone}
 use Rattle.model.specs.Addressed.{Fitted, isFor, eventOf, eventsFor, answersTo, armOf}
 use Rattle.model.specs.Shaped.{Shaped, AlwaysShaped}
 use Rattle.model.specs.Demand3.{Isolated, Demand3}
@@ -27,7 +27,11 @@ module _ (b : Box) (k : ℕ) (c : Call) where
   unfolding after
   after-other e = other b k (decide (b .stations) c) (λ w. false-true (sym e ∙ concerned (b .stations) k c w .addressed))
 
-  after-same : Apart (b .stations) → Fitted k (b .stations) → Shaped (b .tables) → isFor k (b .stations) c ≡ true
+  after-unfitted : getD (b .stations) k 0 ≡ 0 → armOf k (after b c) ≡ armOf k b
+  unfolding after
+  after-unfitted z = other b k (decide (b .stations) c) (λ w. concerned (b .stations) k c w .fitted .1 z)
+
+  pub after-same : Apart (b .stations) → Fitted k (b .stations) → Shaped (b .tables) → isFor k (b .stations) c ≡ true
       → (armOf k (after b c) ≡ step (getD (b .stations) k 0) (armOf k b) (eventOf c) .arm)
       × (answer b c ≡ step (getD (b .stations) k 0) (armOf k b) (eventOf c) .answer)
   unfolding after answer
@@ -72,47 +76,67 @@ follows b k (c ∷ cs) g f h =
           answers = rw e (ih .answers ∙ ap (λ a. answersLone own a es) p);
         }
 
+-- a slot that is found is fitted, so no call changes an unfitted one
+run-unfitted : (k : ℕ) (cs : List Call) (b : Box) → getD (b .stations) k 0 ≡ 0 → armOf k (run b cs) ≡ armOf k b
+unfolding run
+run-unfitted k [] b z = refl
+run-unfitted k (c ∷ cs) b z = run-unfitted k cs (after b c) (rw (after-stations b c) z) ∙ after-unfitted b k c z
+
 -- what every call keeps, a list keeps
 run-keeps : (P : Box → Type 0) → ((b : Box) (c : Call) → P b → P (after b c)) → (cs : List Call) (b : Box) → P b → P (run b cs)
 unfolding run
 run-keeps P keeps [] b h = h
 run-keeps P keeps (c ∷ cs) b h = run-keeps P keeps cs (after b c) (keeps b c h)
 
-run-stations : (cs : List Call) (b : Box) → run b cs .stations ≡ b .stations
+pub run-stations : (cs : List Call) (b : Box) → run b cs .stations ≡ b .stations
 run-stations cs b = run-keeps (λ d. d .stations ≡ b .stations) (λ d c e. after-stations d c ∙ e) cs b refl
 
 -- ---- a call addressed to no arm
 
 unconcerned : (t : Tables) (d : Decision) → concerns d ≡ nowhere → performTables t d ≡ t
-unconcerned t (turned n) e = refl
+unconcerned t (unanswered n) e = refl
 unconcerned t (refused k s n q) e = refl
 unconcerned t (asked k s r) e = nowhere-at (sym e)
-unconcerned t (sensed k p v) e = nowhere-at (sym e)
+unconcerned t (inputSet k p v) e = nowhere-at (sym e)
 
-quiet : (b : Box) (c : Call) → ((k : ℕ) → Fitted k (b .stations) → isFor k (b .stations) c ≡ false) → after b c .tables ≡ b .tables
-unfolding after perform
-quiet b c n = go (concerns (decide (b .stations) c)) refl
+no-reply : (b : Box) (d : Decision) → concerns d ≡ nowhere → respond b d .reply ≡ []
+unfolding respond
+no-reply b (unanswered n) e = refl
+no-reply b (refused k s n q) e = nowhere-at (sym e)
+no-reply b (asked k s r) e = nowhere-at (sym e)
+no-reply b (inputSet k p v) e = nowhere-at (sym e)
+
+unaddressed : (b : Box) (c : Call) → ((k : ℕ) → Fitted k (b .stations) → isFor k (b .stations) c ≡ false)
+    → (after b c .tables ≡ b .tables) × (answer b c .reply ≡ [])
+unfolding after answer perform
+unaddressed b c n = go (concerns (decide (b .stations) c)) refl
   where
-    go : (s : Slot) → concerns (decide (b .stations) c) ≡ s → performTables (b .tables) (decide (b .stations) c) ≡ b .tables
-    go nowhere e = unconcerned (b .tables) (decide (b .stations) c) e
+    go : (s : Slot) → concerns (decide (b .stations) c) ≡ s
+        → (performTables (b .tables) (decide (b .stations) c) ≡ b .tables) × (respond b (decide (b .stations) c) .reply ≡ [])
+    go nowhere e = (unconcerned (b .tables) (decide (b .stations) c) e, no-reply b (decide (b .stations) c) e)
     go (at k) e = let w = concerned (b .stations) k c e in false-true (sym (n k (w .fitted)) ∙ w .addressed)
 
 -- ---- from setup
 
-setup-blank : (want : List ℕ) (k : ℕ) → k < 4 → armOf k (setup want) ≡ blank
-unfolding setup zeros blank
-setup-blank want k l = search getD-replicate
+setup-zero : (want : List ℕ) (k : ℕ) → k < 4 → armOf k (setup want) ≡ zeroArm
+unfolding setup zeros zeroArm
+setup-zero want k l = search getD-replicate
 
 isolated : (want : List ℕ) (cs : List Call) (k : ℕ) → Fitted k (setup want .stations) → Isolated (setup want) k cs
 isolated want cs k f =
     let w = follows (setup want) k cs (setup-apart want) f (setup-shaped want) in
-    let e = setup-blank want k (f .0) in
+    let e = setup-zero want k (f .0) in
     record { tables = rw (← e) (w .tables); answers = rw (← e) (w .answers) }
 
 pub demand3 : (want : List ℕ) (cs : List Call) → Demand3 want cs
 demand3 want cs =
     let e = run-stations cs (setup want) in
-    record { alone = isolated want cs; quiet = λ c n. quiet (run (setup want) cs) c (rw e n); stations = e }
+    record {
+      alone = isolated want cs;
+      unaddressed = λ c n. unaddressed (run (setup want) cs) c (rw e n);
+      unfitted = λ k l z. run-unfitted k cs (setup want) z ∙ setup-zero want k l;
+      stations = e;
+    }
 
 pub always-shaped : AlwaysShaped
 always-shaped want cs = run-keeps (λ b. Shaped (b .tables)) after-shaped cs (setup want) (setup-shaped want)

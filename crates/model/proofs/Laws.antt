@@ -1,11 +1,38 @@
--- Laws about tests, and about the rows of a table.
-use Prim.Native.Nat.{ℕ, _<_}
-use mathlib.Core.Path.{_≡_, refl}
-use mathlib.Core.Bool.{Bool, true, false, _&&_}
-use mathlib.Core.List.{List, []}
+-- Laws about tests, about the rows of a table, about ranges, and about requests and replies as they are written.
+use Prim.Native.Nat.{ℕ, zero, suc, _%_, _≤_, _<_}
+use mathlib.Core.Path.{_≡_, refl, ap, _∙_}
+use mathlib.Core.Bool.{Bool, true, false, cond, not, _&&_}
+use mathlib.Core.List.{List, [], _∷_}
 use native.Mathlib.Omega.{arith}
-use lib.ListN.{length, getD, set}
+use borrow.Author.Tests.{le-ltb, eqb-true, eq-eqb}
+use lib.Dec.{ltb, eqb}
+use lib.IntN.{ℤ, pos, natAbs}
+use lib.ListN.{length, getD, set, replicate}
 use lib.Seq.{getD-set-same, getD-set-other}
+use lib.Signed.{ltZ}
+use Rattle.frame.specs.Frame.{Reading, readFrame, frameOf}
+use Rattle.commands.specs.declared.command.Kind.{Kind}
+use Rattle.commands.specs.declared.command.Kind.the-variants as kind
+use Rattle.commands.specs.declared.command.Rule.{Rule}
+use Rattle.commands.specs.declared.request.Row.{Row}
+use Rattle.commands.specs.declared.request.Request.{Request}
+use Rattle.commands.specs.Request.{one}
+use Rattle.harl.specs.declared.body.Judged.{Judged}
+use Rattle.harl.specs.declared.body.Judged.the-variants as judged
+use Rattle.harl.specs.declared.reply.Data.{Data}
+use Rattle.harl.specs.declared.reply.Outcome.{Outcome}
+use Rattle.harl.specs.declared.reply.Outcome.the-variants as outcome
+use Rattle.harl.specs.declared.message.Asked.the-variants as asked
+use Rattle.harl.specs.declared.message.Answered.the-variants as answered
+use Rattle.harl.specs.Data.{limitsOf, inRange, allInRange, judge}
+use Rattle.harl.specs.Body.{readBody}
+use Rattle.harl.specs.Reply.{contentOf, codeOf, dataFit, judgeOutcome, outcomeText}
+use Rattle.harl.specs.Message.{ruleFor, judgeAsked, fromStation, requestIn, readRequest, writeRequest, judgeReply, writeReply, readReply}
+use Rattle.harl.proofs.Laws.{Fitting}
+use Rattle.harl.proofs.Ranges.{in-nat, all-x, all-y, passed}
+use Rattle.harl.proofs.Texts.{check-passed}
+use Rattle.harl.proofs.Requests.{requests-read-back}
+use Rattle.harl.proofs.Replies.{replies-read-back}
 use Rattle.tables.specs.Tables.{set2}
 
 -- ---- tests
@@ -21,6 +48,11 @@ and-right false b e = cc
 pub false-true : {A : Type 0} → false ≡ true → A
 false-true e = let z : _≡_ {A = ℕ} 0 1 = cc in absurd (omega arith)
 
+-- what holds of both branches
+pub cond-has : {A : Type 0} (P : A → Type 0) (t : Bool) {x y : A} → P x → P y → P (cond t x y)
+cond-has P true p q = p
+cond-has P false p q = q
+
 -- ---- a store changes the row of its own slot alone
 
 module _ {A : Type 0} (t : List (List A)) where
@@ -29,3 +61,117 @@ module _ {A : Type 0} (t : List (List A)) where
 
   pub row-same : (k n : ℕ) (v : A) → length t ≡ 4 → k < 4 → getD (set2 t k n v) k [] ≡ set (getD t k []) n v
   row-same k n v e l = getD-set-same t k _ [] (rw e l)
+
+-- ---- what holds of every element of a list, and of what is read past its end
+
+module _ {A : Type 0} (P : A → Type 0) (d : A) where
+  -- a store of such a value keeps it
+  pub set-has : (l : List A) (i j : ℕ) (v : A) → P v → P (getD l j d) → P (getD (set l i v) j d)
+  set-has [] i j v p h = h
+  set-has (x ∷ l) zero zero v p h = p
+  set-has (x ∷ l) zero (suc j) v p h = h
+  set-has (x ∷ l) (suc i) zero v p h = h
+  set-has (x ∷ l) (suc i) (suc j) v p h = set-has l i j v p h
+
+  pub replicate-has : (n j : ℕ) (v : A) → P v → P d → P (getD (replicate n v) j d)
+  replicate-has zero j v p h = h
+  replicate-has (suc n) zero v p h = p
+  replicate-has (suc n) (suc j) v p h = replicate-has n j v p h
+
+-- and of every place of a table
+module _ {A : Type 0} (P : A → Type 0) (d : A) where
+  abbrev pub Every : List (List A) → Type 0
+  Every t = (k n : ℕ) → P (getD (getD t k []) n d)
+
+  pub every-set : (t : List (List A)) (k n : ℕ) (v : A) → P v → Every t → Every (set2 t k n v)
+  every-set t k n v p h j =
+      set-has (λ r. (m : ℕ) → P (getD r m d)) [] t k j _ (λ m. set-has P d (getD t k []) n m v p (h k m)) (h j)
+
+  pub every-equal : (s n : ℕ) (v : A) → P v → P d → Every (replicate s (replicate n v))
+  every-equal s n v p h j =
+      replicate-has (λ r. (m : ℕ) → P (getD r m d)) [] s j _ (λ m. replicate-has P d n m v p h) (λ m. h)
+
+-- ---- ranges
+
+pub zero-in : (c : Kind) → inRange c (pos 0) ≡ true
+unfolding inRange
+zero-in kind.Timer = refl
+zero-in kind.Register = refl
+zero-in kind.Row = refl
+zero-in kind.Signal = refl
+zero-in kind.Port = refl
+
+-- from 0 to m
+up-to : (m v : ℕ) → v ≤ m → not (ltZ (pos v) (pos 0)) && not (ltZ (pos m) (pos v)) ≡ true
+up-to m v h = rw (le-ltb v 0 (omega arith), le-ltb m v h)
+
+pub port-in : (v : ℕ) → v ≤ 255 → inRange kind.Port (pos v) ≡ true
+unfolding inRange
+port-in v h = up-to 255 v h
+
+signal-in : (v : ℕ) → v ≤ 1 → inRange kind.Signal (pos v) ≡ true
+unfolding inRange
+signal-in v h = up-to 1 v h
+
+-- in a range that starts at 0, the natural number that a value is
+pub natural-in : (c : Kind) (v : ℤ) → limitsOf c .low ≡ pos 0 → inRange c v ≡ true → inRange c (pos (natAbs v)) ≡ true
+natural-in c v low h = rw (← in-nat c v low h) h
+
+-- data of one value, of two, and a bit
+pub one-in : (c : Kind) (v : ℤ) → inRange c v ≡ true → allInRange c (one v) ≡ true
+unfolding allInRange
+one-in c v h = rw (h, zero-in c)
+
+pub row-in : (r : Row) → inRange kind.Row (r .x) ≡ true → inRange kind.Row (r .y) ≡ true → allInRange kind.Row r ≡ true
+unfolding allInRange
+row-in r x y = rw (x, y)
+
+pub bit-in : (n : ℕ) → allInRange kind.Signal (one (pos (n % 2))) ≡ true
+bit-in n = one-in kind.Signal (pos (n % 2)) (signal-in (n % 2) (omega arith))
+
+-- the data of a request that passes checks 11 and 12
+pub data-in : (rule : Rule) (n : ℕ) (r : Row) → judge rule n r ≡ 0 → (inRange (rule .kind) (r .x) ≡ true) × (inRange (rule .kind) (r .y) ≡ true)
+data-in rule n r e = let h = passed rule n r e .values in (all-x (rule .kind) r h, all-y (rule .kind) r h)
+
+-- ---- requests and replies as they are written
+
+-- a frame of request r to station s
+pub record Framed (o : Reading) (s : ℕ) (r : Request) : Type 0 where
+  pub number : o .number ≡ 0
+  pub station : o .station ≡ s
+  pub body : readBody (o .body) ≡ judged.Accepted r
+
+never : {A : Type 0} {n s : ℕ} {r : Request} → asked.Refused n ≡ asked.Accepted s r → A
+never e = let z : _≡_ {A = ℕ} 0 1 = cc in absurd (omega arith)
+
+-- what reads as a request is a frame of it
+framed : (o : Reading) (s : ℕ) (r : Request) → requestIn o ≡ asked.Accepted s r → Framed o s r
+framed o s r = go (eqb (o .number) 0) refl (readBody (o .body)) refl
+  where
+    go : (t : Bool) → eqb (o .number) 0 ≡ t → (j : Judged) → readBody (o .body) ≡ j
+        → cond t (fromStation (o .station) j) (asked.Refused (o .number)) ≡ asked.Accepted s r → Framed o s r
+    go true p (judged.Accepted q) w e =
+        let same : q ≡ r = cc in
+        record { number = eqb-true (o .number) 0 p; station = cc; body = w ∙ ap judged.Accepted same }
+    go true p (judged.Refused n q) w e = never e
+    go false p j w e = never e
+
+module _ (area s : ℕ) (r : Request) (e : writeRequest area s r .number ≡ 0) where
+  pub written-frame : Framed (readFrame (writeRequest area s r .bytes)) s r
+  unfolding readRequest
+  written-frame = framed _ s r (requests-read-back area s r e)
+
+  pub written-in : judgeAsked s r ≡ 0
+  unfolding writeRequest
+  written-in = check-passed (ltb area 64) 1 (judgeAsked s r) (omega arith) e .1
+
+-- data that fit a command can be written
+pub fitting-in : (rule : Rule) (d : Data) → Fitting rule (contentOf d) → judgeOutcome rule (outcome.Data d) ≡ 0
+unfolding judgeOutcome dataFit
+fitting-in rule d f = rw (f .loads, f .kind, eq-eqb (codeOf (rule .kind)) _ refl, f .range)
+
+-- the frame of an outcome that can be written reads as that outcome
+pub outcome-back : (s : ℕ) (r : Request) (o : Outcome) → judgeAsked s r ≡ 0 → judgeOutcome (ruleFor r) o ≡ 0
+    → readReply (frameOf s (outcomeText (ruleFor r .store) o)) s r ≡ answered.Accepted o
+unfolding judgeReply writeReply
+outcome-back s r o p q = let e : judgeReply 64 s r o ≡ 0 = rw (p, q) in rw e at (replies-read-back 64 s r o e)

@@ -4,4 +4,6 @@ pub mod Arms
 pub mod Shaped
 pub mod Setups
 pub mod Isolation
+pub mod Ranges
+pub mod Link
 pub mod Runs

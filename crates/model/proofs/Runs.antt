@@ -9,7 +9,7 @@ use Rattle.frame.specs.Frame.{stationOf, readInner, readFrame, opening, closing
 use Rattle.commands.specs.Command.{same, nameOf, among, commandOf}
 use Rattle.harl.specs.Data.{inRange, allInRange, judge, rowText}
 use Rattle.harl.specs.Body.{readShape, decided, readBody}
-use Rattle.harl.specs.Reply.{statusText}
+use Rattle.harl.specs.Reply.{statusText, outcomeText}
 use Rattle.tables.specs.Tables.{loaded, stored, zeros}
 use Rattle.model.specs.Box.{lacks, distinct, small, setupNumber, setup, scan, slotOf, decide, perform, respond, after, answer}
 use Rattle.model.specs.Examples.{answered, Runs}
@@ -18,7 +18,7 @@ pub runs-hold : Runs
 unfolding until digitsOnto readWhole place leading shortest padded
     decimals magnitude readHundredths magnitudeText hundredthsText
     xorOnto lrcOf first more fields stationOf readInner readFrame opening closing frameOf
-    same nameOf among commandOf inRange allInRange judge rowText readShape decided readBody statusText
+    same nameOf among commandOf inRange allInRange judge rowText readShape decided readBody statusText outcomeText
     loaded stored zeros
     lacks distinct small setupNumber setup scan slotOf decide perform respond after answer answered
 runs-hold = refl

@@ -14,7 +14,7 @@ use Rattle.harl.specs.declared.body.Judged.{Judged}
 use Rattle.harl.specs.declared.body.Judged.the-variants as judged
 use Rattle.harl.specs.Body.{readBody}
 use Rattle.model.specs.Call.{Call, serve, input}
-use Rattle.model.specs.Box.{lacks, distinct, small, setupNumber, setup, Slot, nowhere, at, scan, slotOf, Decision, turned, refused, asked, sensed, decideBody, decideSlot, decideFrame, decide}
+use Rattle.model.specs.Box.{lacks, distinct, small, setupNumber, setup, Slot, nowhere, at, scan, slotOf, Decision, unanswered, refused, asked, inputSet, decideBody, decideSlot, decideFrame, decide}
 use Rattle.model.specs.Addressed.{Fitted, isFor}
 use Rattle.model.proofs.Laws.{and-left, and-right}
 
@@ -102,10 +102,10 @@ slot-own st k g f =
 -- ---- the slot that a decision concerns is fitted, and the call is addressed to its arm
 
 abbrev pub concerns : Decision → Slot
-concerns (turned n) = nowhere
+concerns (unanswered n) = nowhere
 concerns (refused k s n q) = at k
 concerns (asked k s r) = at k
-concerns (sensed k p v) = at k
+concerns (inputSet k p v) = at k
 
 body-concerns : (k s : ℕ) (j : Judged) → concerns (decideBody k s j) ≡ at k
 body-concerns k s (judged.Accepted r) = refl
@@ -120,7 +120,7 @@ module _ (st : List ℕ) (k : ℕ) where
   frame-for o e = go (eqb (o .number) 0) (slotOf st (o .station)) _ refl e
     where
       go : (t : Bool) (f : Slot) (n : ℕ) → slotOf st (o .station) ≡ f
-          → concerns (cond t (decideSlot (o .station) (o .body) f) (turned n)) ≡ at k
+          → concerns (cond t (decideSlot (o .station) (o .body) f) (unanswered n)) ≡ at k
           → For k st (t && eqb (o .station) (getD st k 0))
       go false f n ef e′ = nowhere-at e′
       go true nowhere n ef e′ = nowhere-at e′
@@ -133,14 +133,14 @@ module _ (st : List ℕ) (k : ℕ) where
   unfolding decide isFor
   concerned (serve slice room) e = go (ltb room 64) refl e
     where
-      go : (t : Bool) → ltb room 64 ≡ t → concerns (cond t (turned 1) (decideFrame st (readFrame slice))) ≡ at k
+      go : (t : Bool) → ltb room 64 ≡ t → concerns (cond t (unanswered 1) (decideFrame st (readFrame slice))) ≡ at k
           → For k st (leb 64 room && (eqb (readFrame slice .number) 0 && eqb (readFrame slice .station) (getD st k 0)))
       go true et e′ = nowhere-at e′
       go false et e′ = rw (le-leb 64 room (ltb-false room 64 et)) (frame-for (readFrame slice) e′)
   concerned (input j p v) e = go (ltb 3 j) refl (eqb (getD st j 0) 0) refl (ltb 31 p) refl e
     where
       go : (t₁ : Bool) → ltb 3 j ≡ t₁ → (t₂ : Bool) → eqb (getD st j 0) 0 ≡ t₂ → (t₃ : Bool) → ltb 31 p ≡ t₃
-          → concerns (cond t₁ (turned 14) (cond t₂ (turned 14) (cond t₃ (turned 14) (sensed j p v)))) ≡ at k
+          → concerns (cond t₁ (unanswered 14) (cond t₂ (unanswered 14) (cond t₃ (unanswered 14) (inputSet j p v)))) ≡ at k
           → For k st (leb j 3 && (not (eqb (getD st j 0) 0) && (leb p 31 && eqb j k)))
       go true e₁ t₂ e₂ t₃ e₃ e′ = nowhere-at e′
       go false e₁ true e₂ t₃ e₃ e′ = nowhere-at e′
@@ -157,7 +157,7 @@ module _ (st : List ℕ) (k : ℕ) where
 
 abbrev pub heard : ℕ → List ℕ → Call → Decision
 heard k st (serve slice room) = decideBody k (getD st k 0) (readBody (readFrame slice .body))
-heard k st (input j p v) = sensed k p v
+heard k st (input j p v) = inputSet k p v
 
 pub decided : (st : List ℕ) (k : ℕ) (c : Call) → Apart st → Fitted k st → isFor k st c ≡ true → decide st c ≡ heard k st c
 unfolding decide isFor

@@ -8,13 +8,12 @@ use lib.ListN.{getD, replicate}
 use lib.Dec.{ltb, leb, eqb}
 use Rattle.frame.specs.Frame.{Reading, readFrame, frameOf}
 use Rattle.commands.specs.declared.request.Request.{Request}
-use Rattle.commands.specs.declared.request.Request.the-variants as request
 use Rattle.harl.specs.declared.body.Judged.{Judged}
 use Rattle.harl.specs.declared.body.Judged.the-variants as judged
 use Rattle.harl.specs.Body.{readBody}
-use Rattle.harl.specs.Reply.{contentOf, contentText, refusalText, doneText}
-use Rattle.tables.specs.Tables.{Tables, withInputs, set2, loaded, stored, zeros}
-use Rattle.model.specs.Call.{Call, serve, input, Answer, silent}
+use Rattle.harl.specs.Reply.{outcomeText, refusalText}
+use Rattle.tables.specs.Tables.{Tables, withInputs, set2, performed, answered, zeros}
+use Rattle.model.specs.Call.{Call, serve, input, Answer, noReply}
 
 -- a station of 0 leaves its slot unfitted
 pub record Box : Type 0 where
@@ -61,13 +60,13 @@ scan st s (suc m) i = cond (eqb (getD st i 0) s) (at i) (scan st s m (suc i))
 unfoldable pub slotOf : List ℕ → ℕ → Slot
 slotOf st s = cond (eqb s 0) nowhere (scan st s 4 0)
 
--- turned: refused with no reply. refused: slot, station, number, whether the name is an SN's. asked: slot,
--- station, request. sensed: slot, input port, byte
+-- unanswered: refused with no reply. refused: slot, station, number, whether the name is an SN's. asked: slot,
+-- station, request. inputSet: slot, input port, byte
 pub data Decision : Type 0 where
-  turned : ℕ → Decision
+  unanswered : ℕ → Decision
   refused : ℕ → ℕ → ℕ → Bool → Decision
   asked : ℕ → ℕ → Request → Decision
-  sensed : ℕ → ℕ → ℕ → Decision
+  inputSet : ℕ → ℕ → ℕ → Decision
 
 -- 9 to 12
 abbrev pub decideBody : ℕ → ℕ → Judged → Decision
@@ -76,40 +75,37 @@ decideBody k s (judged.Refused n store) = refused k s n store
 
 -- 8 ABSENT
 abbrev pub decideSlot : ℕ → List ℕ → Slot → Decision
-decideSlot s body nowhere = turned 8
+decideSlot s body nowhere = unanswered 8
 decideSlot s body (at k) = decideBody k s (readBody body)
 
 -- 2 to 7
 abbrev pub decideFrame : List ℕ → Reading → Decision
-decideFrame st o = cond (eqb (o .number) 0) (decideSlot (o .station) (o .body) (slotOf st (o .station))) (turned (o .number))
+decideFrame st o = cond (eqb (o .number) 0) (decideSlot (o .station) (o .body) (slotOf st (o .station))) (unanswered (o .number))
 
 -- 1 ROOM, then those; 14 INPUT
 unfoldable pub decide : List ℕ → Call → Decision
-decide st (serve slice room) = cond (ltb room 64) (turned 1) (decideFrame st (readFrame slice))
+decide st (serve slice room) = cond (ltb room 64) (unanswered 1) (decideFrame st (readFrame slice))
 decide st (input k port byte) =
-    cond (ltb 3 k) (turned 14)
-    (cond (eqb (getD st k 0) 0) (turned 14)
-    (cond (ltb 31 port) (turned 14) (sensed k port byte)))
+    cond (ltb 3 k) (unanswered 14)
+    (cond (eqb (getD st k 0) 0) (unanswered 14)
+    (cond (ltb 31 port) (unanswered 14) (inputSet k port byte)))
 
 -- ---- what is done and answered
 
 abbrev pub performTables : Tables → Decision → Tables
-performTables t (turned n) = t
+performTables t (unanswered n) = t
 performTables t (refused k s n store) = t
-performTables t (asked k s (request.Load l)) = t
-performTables t (asked k s (request.Store q)) = stored k q t
-performTables t (sensed k p v) = withInputs t (set2 (t .inputs) k p v)
+performTables t (asked k s r) = performed k r t
+performTables t (inputSet k p v) = withInputs t (set2 (t .inputs) k p v)
 
 unfoldable pub perform : Box → Decision → Box
 perform b d = record { stations = b .stations; tables = performTables (b .tables) d }
 
 unfoldable pub respond : Box → Decision → Answer
-respond b (turned n) = silent n
+respond b (unanswered n) = noReply n
 respond b (refused k s n store) = record { number = n; reply = frameOf s (refusalText n store) }
-respond b (asked k s (request.Load l)) =
-    record { number = 0; reply = frameOf s (contentText (contentOf (loaded k l (b .tables)))) }
-respond b (asked k s (request.Store q)) = record { number = 0; reply = frameOf s doneText }
-respond b (sensed k p v) = silent 0
+respond b (asked k s r) = record { number = 0; reply = frameOf s (outcomeText true (answered k r (b .tables))) }
+respond b (inputSet k p v) = noReply 0
 
 -- the box that a call leaves, and its answer
 unfoldable pub after : Box → Call → Box

@@ -13,5 +13,5 @@ pub record Answer : Type 0 where
   pub reply : List ℕ
 
 -- no reply
-abbrev pub silent : ℕ → Answer
-silent n = record { number = n; reply = [] }
+abbrev pub noReply : ℕ → Answer
+noReply n = record { number = n; reply = [] }

@@ -3,7 +3,7 @@ use Prim.Native.Nat.{ℕ}
 use mathlib.Core.Path.{_≡_}
 use mathlib.Core.List.{List, [], _∷_, _++_, map}
 use Rattle.frame.specs.Frame.{frameOf}
-use Rattle.model.specs.Call.{Call, serve, input, Answer, silent}
+use Rattle.model.specs.Call.{Call, serve, input, Answer, noReply}
 use Rattle.model.specs.Box.{Box, setupNumber, setup, after, answer}
 
 -- a call and its answer
@@ -23,8 +23,8 @@ answered b [] = []
 answered b (t ∷ ts) = record { call = t .call; answer = answer b (t .call) } ∷ answered (after b (t .call)) ts
 
 -- the same run, as the box goes through it
-abbrev pub gone : Run → Run
-gone r = record { want = r .want; number = setupNumber (r .want); turns = answered (setup (r .want)) (r .turns) }
+abbrev pub replayed : Run → Run
+replayed r = record { want = r .want; number = setupNumber (r .want); turns = answered (setup (r .want)) (r .turns) }
 
 -- a request to a station, the number given, and the body of the reply
 abbrev pub asks : ℕ → List ℕ → ℕ → List ℕ → Turn
@@ -32,7 +32,7 @@ asks s body n reply = record { call = serve (frameOf s body) 64; answer = record
 
 -- a call that has no reply, and the number given
 abbrev pub gives : Call → ℕ → Turn
-gives c n = record { call = c; answer = silent n }
+gives c n = record { call = c; answer = noReply n }
 
 -- LND 5
 abbrev pub lnd : List ℕ
@@ -84,8 +84,8 @@ ports =
     []
 
 -- no reply: station 9 is absent, which is judged after its LRC; a room of 63 bytes; no slot 4; no port 32
-abbrev pub unheard : List Turn
-unheard =
+abbrev pub unansweredCalls : List Turn
+unansweredCalls =
     gives (serve (frameOf 9 lnd) 64) 8 ∷
     gives (serve (2 ∷ 57 ∷ 32 ∷ (lnd ++ (3 ∷ 0 ∷ []))) 64) 5 ∷
     gives (serve (frameOf 1 lnd) 63) 1 ∷
@@ -96,7 +96,7 @@ unheard =
 -- four arms; station 1 twice, so that no arm is fitted; a station above 99; one arm, in slot 1
 abbrev pub runs : List Run
 runs =
-    record { want = 1 ∷ 2 ∷ 3 ∷ 4 ∷ []; number = 0; turns = registers ++ (rows ++ (ports ++ unheard)) } ∷
+    record { want = 1 ∷ 2 ∷ 3 ∷ 4 ∷ []; number = 0; turns = registers ++ (rows ++ (ports ++ unansweredCalls)) } ∷
     record { want = 1 ∷ 2 ∷ 1 ∷ 0 ∷ []; number = 13; turns = gives (serve (frameOf 1 lnd) 64) 8 ∷ gives (input 0 0 1) 14 ∷ [] } ∷
     record { want = 100 ∷ 0 ∷ 0 ∷ 0 ∷ []; number = 13; turns = [] } ∷
     record { want = 0 ∷ 7 ∷ 0 ∷ 0 ∷ []; number = 0; turns = gives (input 0 0 1) 14 ∷ gives (input 1 0 1) 0 ∷ [] } ∷
@@ -104,4 +104,4 @@ runs =
 
 -- the box goes through every run as it stands here (proved in proofs/Runs.antt)
 abbrev pub Runs : Type 0
-Runs = map gone runs ≡ runs
+Runs = map replayed runs ≡ runs

@@ -3,5 +3,7 @@ pub mod Box
 pub mod Lone
 pub mod Addressed
 pub mod Shaped
+pub mod Ranges
 pub mod Demand3
+pub mod Link
 pub mod Examples

@@ -19,7 +19,7 @@ use Rattle.harl.specs.declared.reply.Data.the-variants as held
 use Rattle.harl.specs.Body.{readBody}
 use Rattle.harl.specs.Reply.{contentOf, contentText, refusalText, doneText}
 use Rattle.tables.specs.Bits.{bit, withBit}
-use Rattle.model.specs.Call.{Answer, silent}
+use Rattle.model.specs.Call.{Answer, noReply}
 
 -- 16 timers, 64 registers, 100 rows, 32 input, 32 output and 16 memory ports
 pub record Arm : Type 0 where
@@ -32,8 +32,8 @@ pub record Arm : Type 0 where
   pub memory : List ℕ
 
 -- all zero at first
-unfoldable pub blank : Arm
-blank =
+unfoldable pub zeroArm : Arm
+zeroArm =
     record {
       timers = replicate 16 0;
       registers = replicate 64 0;
@@ -102,22 +102,22 @@ pub record Step : Type 0 where
   pub answer : Answer
 
 -- an accepted LN replies the data held, an accepted SN "00"
-abbrev pub obey : ℕ → Arm → Request → Step
-obey own a (request.Load l) =
+abbrev pub answerRequest : ℕ → Arm → Request → Step
+answerRequest own a (request.Load l) =
     record { arm = a; answer = record { number = 0; reply = frameOf own (contentText (contentOf (holds a l))) } }
-obey own a (request.Store q) =
+answerRequest own a (request.Store q) =
     record { arm = replaced a q; answer = record { number = 0; reply = frameOf own doneText } }
 
 -- a check after 8 refuses: its number and its reply, and nothing changes
-abbrev pub hear : ℕ → Arm → Judged → Step
-hear own a (judged.Accepted r) = obey own a r
-hear own a (judged.Refused n store) =
+abbrev pub answerBody : ℕ → Arm → Judged → Step
+answerBody own a (judged.Accepted r) = answerRequest own a r
+answerBody own a (judged.Refused n store) =
     record { arm = a; answer = record { number = n; reply = frameOf own (refusalText n store) } }
 
 -- the station of the arm, the arm, and what happens
 unfoldable pub step : ℕ → Arm → Event → Step
-step own a (frameIn slice) = hear own a (readBody (readFrame slice .body))
-step own a (portIn port byte) = record { arm = withInputs a (set (a .inputs) port byte); answer = silent 0 }
+step own a (frameIn slice) = answerBody own a (readBody (readFrame slice .body))
+step own a (portIn port byte) = record { arm = withInputs a (set (a .inputs) port byte); answer = noReply 0 }
 
 unfoldable pub runLone : ℕ → Arm → List Event → Arm
 runLone own a [] = a

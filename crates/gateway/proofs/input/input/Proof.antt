@@ -5,16 +5,16 @@ use borrow.Author.Needs.{needs}
 use borrow.Author.Tests.{lt-ltb, le-ltb, eq-eqb, ne-eqb}
 use Rattle.tables.specs.Tables.{withInputs, set2}
 use Rattle.model.specs.Call.{input}
-use Rattle.model.specs.Box.{Box, turned, sensed, decide, perform, respond, after, answer}
-use Rattle.gateway.specs.Entries.{Sensed}
+use Rattle.model.specs.Box.{Box, unanswered, inputSet, decide, perform, respond, after, answer}
+use Rattle.gateway.specs.Entries.{InputSet}
 use Rattle.gateway.proofs.input.input.Statement.{statement}
 use Rattle.gateway.proofs.input.input.Tie as tie
 
-turns-away : (b : Box) (k p v : ℕ) → decide (b .stations) (input k p v) ≡ turned 14 → Sensed b k p v 14 (b .tables)
+turns-away : (b : Box) (k p v : ℕ) → decide (b .stations) (input k p v) ≡ unanswered 14 → InputSet b k p v 14 (b .tables)
 unfolding perform respond after answer
 turns-away b k p v e = record { number-is = rw e; tables-are = rw e }
 
-puts : (b : Box) (k p v : ℕ) → decide (b .stations) (input k p v) ≡ sensed k p v → Sensed b k p v 0 (withInputs (b .tables) (set2 (b .tables .inputs) k p v))
+puts : (b : Box) (k p v : ℕ) → decide (b .stations) (input k p v) ≡ inputSet k p v → InputSet b k p v 0 (withInputs (b .tables) (set2 (b .tables .inputs) k p v))
 unfolding perform respond after answer
 puts b k p v e = record { number-is = rw e; tables-are = rw e }
 

@@ -12,7 +12,7 @@ use Rattle.harl.proofs.Bodies.{wrote-none}
 use Rattle.tables.specs.Tables.{Tables}
 use Rattle.gateway.specs.declared.serve.Found.the-variants as found
 use Rattle.model.specs.Call.{serve}
-use Rattle.model.specs.Box.{Slot, nowhere, at, slotOf, turned, decide, perform, respond, after, answer}
+use Rattle.model.specs.Box.{Slot, nowhere, at, slotOf, unanswered, decide, perform, respond, after, answer}
 use Rattle.gateway.specs.Entries.{box, asFound, foundIn, decided, BodyServed, Served}
 use Rattle.model.proofs.Slots.{slot-at}
 use Rattle.gateway.proofs.serve.serve.Statement.{statement}
@@ -33,16 +33,16 @@ within st s k e = slot-at st s k (found-at (slotOf st s) k e) .0 .0
 
 -- ---- what is decided
 
-no-room : (st slice : List ℕ) (room : ℕ) → room < 64 → decide st (serve slice room) ≡ turned 1
+no-room : (st slice : List ℕ) (room : ℕ) → room < 64 → decide st (serve slice room) ≡ unanswered 1
 unfolding decide
 no-room st slice room h = rw (lt-ltb room 64 h)
 
 module _ (st slice : List ℕ) (room : ℕ) (h : 64 ≤ room) {n s : ℕ} {body : List ℕ} (r : Read (readFrame slice) n s body) where
-  unread : (n ≡ 0 → ⊥) → decide st (serve slice room) ≡ turned n
+  unread : (n ≡ 0 → ⊥) → decide st (serve slice room) ≡ unanswered n
   unfolding decide
   unread z = rw (le-ltb room 64 h, ← r .number-is, ne-eqb n 0 z)
 
-  absent : n ≡ 0 → foundIn st s ≡ found.Nowhere → decide st (serve slice room) ≡ turned 8
+  absent : n ≡ 0 → foundIn st s ≡ found.Nowhere → decide st (serve slice room) ≡ unanswered 8
   unfolding decide
   absent z e = rw (le-ltb room 64 h, ← r .number-is, eq-eqb n 0 z, ← r .station-is, found-none (slotOf st s) e)
 
@@ -53,9 +53,9 @@ module _ (st slice : List ℕ) (room : ℕ) (h : 64 ≤ room) {n s : ℕ} {body 
 -- ---- what is served
 
 module _ {st slice xs : List ℕ} {t : Tables} where
-  turned-served : {n : ℕ} → decide st (serve slice (length xs)) ≡ turned n → Served (box st t) slice xs (record { number = n; length = 0 }) t xs
+  unanswered-served : {n : ℕ} → decide st (serve slice (length xs)) ≡ unanswered n → Served (box st t) slice xs (record { number = n; length = 0 }) t xs
   unfolding answer after perform respond
-  turned-served e =
+  unanswered-served e =
       record {
         answer-is = rw e wrote-none;
         tables-are = rw e;
@@ -68,7 +68,7 @@ module _ {st slice xs : List ℕ} {t : Tables} where
 returns : tie.Need-returns
 returns c =
     let a = c .before .before .before .args in
-    turned-served (no-room (a .stations .now) (a .slice .now) (length (a .reply .now)) (c .if1 .taken))
+    unanswered-served (no-room (a .stations .now) (a .slice .now) (length (a .reply .now)) (c .if1 .taken))
 
 read-frame-requires : tie.Need-read-frame-requires
 read-frame-requires c κs = search needs
@@ -78,7 +78,7 @@ returns-2 c =
     let f = c .before in
     let i = f .before .before .before in
     let a = i .before .before .before .args in
-    turned-served (unread (a .stations .now) (a .slice .now) (length (a .reply .now)) (i .if1 .left) (f .read-frame .ensures) (c .if2 .taken))
+    unanswered-served (unread (a .stations .now) (a .slice .now) (length (a .reply .now)) (i .if1 .left) (f .read-frame .ensures) (c .if2 .taken))
 
 find-slot-requires : tie.Need-find-slot-requires
 find-slot-requires c κs = search needs
@@ -119,7 +119,7 @@ returns-4 c =
     let f = l .before .before in
     let i = f .before .before .before in
     let a = i .before .before .before .args in
-    turned-served (absent (a .stations .now) (a .slice .now) (length (a .reply .now)) (i .if1 .left) (f .read-frame .ensures) (l .before .if2 .left) (sym (l .find-slot .ensures) ∙ c .enum-told .given .1))
+    unanswered-served (absent (a .stations .now) (a .slice .now) (length (a .reply .now)) (i .if1 .left) (f .read-frame .ensures) (l .before .if2 .left) (sym (l .find-slot .ensures) ∙ c .enum-told .given .1))
 
 pub serve-spec : {M : Type 1} → statement M
 serve-spec =

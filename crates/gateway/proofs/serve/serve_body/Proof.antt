@@ -24,30 +24,17 @@ use Rattle.harl.proofs.Bodies.{outcome-length, refusal-length, frame-fits, wrot
 use Rattle.gateway.proofs.serve.serve_body.Statement.{statement}
 use Rattle.gateway.proofs.serve.serve_body.Tie as tie
 
-done-is : statusText true 0 ≡ doneText
-unfolding statusText place
-done-is = refl
-
--- a request is answered with what performing it answers
-asked-answer : (st : List ℕ) (t : Tables) (k s : ℕ) (r : Request) → respond (box st t) (asked k s r) ≡ record { number = 0; reply = frameOf s (outcomeText true (answered k r t)) }
-unfolding respond outcomeText
-asked-answer st t k s (request.Load l) = refl
-asked-answer st t k s (request.Store q) = rw done-is
-
-asked-tables : (t : Tables) (k s : ℕ) (r : Request) → performTables t (asked k s r) ≡ performed k r t
-asked-tables t k s (request.Load l) = refl
-asked-tables t k s (request.Store q) = refl
-
 -- what was put at the front of the area is the reply, and had room
 put-wrote : {n m : ℕ} {xs ys : List ℕ} (s : ℕ) (text : List ℕ) → length text ≤ 17 → 64 ≤ length xs → Put xs 0 (frameOf s text) m ys → Wrote (record { number = n; bytes = frameOf s text }) xs (record { number = n; length = m }) ys
 put-wrote s text short room w = wrote-all w (omega (arith, frame-fits s text (omega arith)))
 
 module _ {k s : ℕ} {body : List ℕ} {t : Tables} {xs ys : List ℕ} {m : ℕ} (room : 64 ≤ length xs) where
   asked-served : {r : Request} {o : Outcome} {t′ : Tables} → readBody body ≡ Accepted r → Performed k r t t′ o → Put xs 0 (frameOf s (outcomeText true o)) m ys → BodyServed k s body t xs (record { number = 0; length = m }) t′ ys
+  unfolding respond
   asked-served {r} {o} e p w =
       record {
-        answer-is = λ st. rw (e, asked-answer st t k s r, ← p .answer) (put-wrote s (outcomeText true o) (outcome-length true o .1) room w);
-        tables-are = rw (e, asked-tables t k s r) (p .tables);
+        answer-is = λ st. rw (e, ← p .answer) (put-wrote s (outcomeText true o) (outcome-length true o .1) room w);
+        tables-are = rw e (p .tables);
       }
 
   refused-served : {n : ℕ} {store : Bool} → readBody body ≡ Refused n store → Put xs 0 (frameOf s (refusalText n store)) m ys → BodyServed k s body t xs (record { number = n; length = m }) t ys

@@ -1,0 +1,127 @@
+-- What is accepted is in range, so every table is in range after any list of calls.
+use Prim.Native.Nat.{ℕ, _-_, _/_, _%_}
+use mathlib.Core.Path.{_≡_, refl}
+use mathlib.Core.Bool.{true}
+use mathlib.Core.List.{List, [], _∷_}
+use native.Mathlib.Omega.{arith}
+use borrow.Author.Tests.{leb-true}
+use lib.Dec.{ltb, eqb}
+use lib.IntN.{ℤ, pos, natAbs}
+use lib.ListN.{getD, replicate}
+use Rattle.frame.specs.Frame.{readFrame}
+use Rattle.commands.specs.declared.command.Command.the-variants.{Snl}
+use Rattle.commands.specs.declared.command.Kind.{Kind}
+use Rattle.commands.specs.declared.command.Kind.the-variants as kind
+use Rattle.commands.specs.declared.request.Store.{Store}
+use Rattle.commands.specs.declared.request.Store.the-variants as store
+use Rattle.commands.specs.declared.request.Request.the-variants as request
+use Rattle.commands.specs.Command.{ruleOf}
+use Rattle.harl.specs.declared.body.Judged.{Judged}
+use Rattle.harl.specs.declared.body.Judged.the-variants as judged
+use Rattle.harl.specs.Data.{inRange}
+use Rattle.harl.specs.Body.{readBody}
+use Rattle.harl.specs.Message.{judgeRequest}
+use Rattle.harl.proofs.Ranges.{in-size}
+use Rattle.harl.proofs.Accepted.{accepted-in-range}
+use Rattle.tables.specs.Bits.{withBit}
+use Rattle.tables.specs.Tables.{Tables, StoreInRange, set2, stored, zeros}
+use Rattle.tables.proofs.Bits.{with-bit-byte}
+use Rattle.model.specs.Call.{Call, serve, input}
+use Rattle.model.specs.Box.{Box, setup, Slot, nowhere, at, slotOf, Decision, unanswered, refused, asked, inputSet, decideBody, decideSlot, decide, performTables, perform, after, run}
+use Rattle.model.specs.Ranges.{InRange, bringsByte, bringBytes, AlwaysInRange}
+use Rattle.model.proofs.Laws.{and-left, and-right, cond-has, Every, every-set, every-equal, zero-in, port-in, natural-in, data-in}
+
+-- ---- a store
+
+-- a natural number and an offset in range
+abbrev Natural : Kind → ℕ → Type 0
+Natural c v = inRange c (pos v) ≡ true
+
+abbrev Offset : ℤ → Type 0
+Offset v = inRange kind.Row v ≡ true
+
+-- a bit in a byte
+with-bit-in : (b n : ℕ) (v : ℤ) → Natural kind.Port b → inRange kind.Signal v ≡ true → Natural kind.Port (withBit b (n % 8) (natAbs v))
+with-bit-in b n v h i =
+    let byte = in-size kind.Port (pos b) h in
+    let bit = in-size kind.Signal v i in
+    let l = with-bit-byte b (n % 8) (natAbs v) (omega arith) (omega arith) (omega arith) in
+    port-in _ (omega arith)
+
+set-natural : (c : Kind) (t : List (List ℕ)) (k n v : ℕ) → Natural c v → Every (Natural c) 0 t → Every (Natural c) 0 (set2 t k n v)
+set-natural c = every-set (Natural c) 0
+
+set-offset : (t : List (List ℤ)) (k n : ℕ) (v : ℤ) → Offset v → Every Offset (pos 0) t → Every Offset (pos 0) (set2 t k n v)
+set-offset = every-set Offset (pos 0)
+
+-- an SN that is accepted
+stored-in : (t : Tables) (k : ℕ) (q : Store) → StoreInRange q → InRange t → InRange (stored k q t)
+unfolding stored
+stored-in t k (store.Timer n v) e h = search (set-natural, natural-in kind.Timer v refl (data-in _ _ _ e .0))
+stored-in t k (store.Register n v) e h = search (set-natural, natural-in kind.Register v refl (data-in _ _ _ e .0))
+stored-in t k (store.Row n r) e h = search (set-offset, data-in (ruleOf Snl) n r e)
+stored-in t k (store.Output g v) e h =
+    search (set-natural, with-bit-in _ (g .0 - 0) v (h .outputs k ((g .0 - 0) / 8)) (data-in _ _ _ e .0))
+stored-in t k (store.OutputPort p v) e h = search (set-natural, natural-in kind.Port v refl (data-in _ _ _ e .0))
+stored-in t k (store.MemoryBit g v) e h =
+    search (set-natural, with-bit-in _ (g .0 - 256) v (h .memory k ((g .0 - 256) / 8)) (data-in _ _ _ e .0))
+stored-in t k (store.MemoryPort p v) e h = search (set-natural, natural-in kind.Port v refl (data-in _ _ _ e .0))
+
+-- ---- what is decided of a call
+
+-- an accepted request is in range, and an input call brings a byte
+abbrev Sound : Decision → Type 0
+Sound (unanswered n) = Unit
+Sound (refused k s n q) = Unit
+Sound (asked k s r) = judgeRequest r ≡ 0
+Sound (inputSet k p v) = inRange kind.Port (pos v) ≡ true
+
+sound-slot : (s : ℕ) (body : List ℕ) (f : Slot) → Sound (decideSlot s body f)
+sound-slot s body nowhere = tt
+sound-slot s body (at k) = go (readBody body) refl
+  where
+    go : (j : Judged) → readBody body ≡ j → Sound (decideBody k s j)
+    go (judged.Accepted r) e = accepted-in-range body r e
+    go (judged.Refused n q) e = tt
+
+sound : (st : List ℕ) (c : Call) → bringsByte c ≡ true → Sound (decide st c)
+unfolding decide bringsByte
+sound st (serve slice room) e =
+    let o = readFrame slice in
+    cond-has Sound (ltb room 64) tt
+    (cond-has Sound (eqb (o .number) 0) (sound-slot (o .station) (o .body) (slotOf st (o .station))) tt)
+sound st (input k p v) e =
+    cond-has Sound (ltb 3 k) tt
+    (cond-has Sound (eqb (getD st k 0) 0) tt
+    (cond-has Sound (ltb 31 p) tt (port-in v (leb-true v 255 e))))
+
+-- ---- calls
+
+performed-in : (t : Tables) (d : Decision) → Sound d → InRange t → InRange (performTables t d)
+performed-in t (unanswered n) e h = h
+performed-in t (refused k s n q) e h = h
+performed-in t (asked k s (request.Load l)) e h = h
+performed-in t (asked k s (request.Store q)) e h = stored-in t k q e h
+performed-in t (inputSet k p v) e h = search set-natural
+
+after-in : (b : Box) (c : Call) → bringsByte c ≡ true → InRange (b .tables) → InRange (after b c .tables)
+unfolding after perform
+after-in b c e h = performed-in (b .tables) (decide (b .stations) c) (sound (b .stations) c e) h
+
+run-in : (cs : List Call) (b : Box) → bringBytes cs ≡ true → InRange (b .tables) → InRange (run b cs .tables)
+unfolding run bringBytes
+run-in [] b e h = h
+run-in (c ∷ cs) b e h = run-in cs (after b c) (and-right (bringsByte c) _ e) (after-in b c (and-left (bringsByte c) _ e) h)
+
+zero-natural : (c : Kind) (n : ℕ) → Every (Natural c) 0 (replicate 4 (replicate n 0))
+zero-natural c n = every-equal (Natural c) 0 4 n 0 (zero-in c) (zero-in c)
+
+zero-offset : (n : ℕ) → Every Offset (pos 0) (replicate 4 (replicate n (pos 0)))
+zero-offset n = every-equal Offset (pos 0) 4 n (pos 0) (zero-in kind.Row) (zero-in kind.Row)
+
+setup-in : (want : List ℕ) → InRange (setup want .tables)
+unfolding setup zeros
+setup-in want = search (zero-natural, zero-offset)
+
+pub always-in-range : AlwaysInRange
+always-in-range want cs e = run-in cs (setup want) e (setup-in want)
