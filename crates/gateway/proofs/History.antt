@@ -1,0 +1,66 @@
+-- A history of calls is a run of the model, so demand 3 holds of what a program saw.
+use Prim.Native.Nat.{ℕ, _+_}
+use mathlib.Core.Path.{_≡_, refl, sym, ap, ap₂, _∙_}
+use mathlib.Core.Bool.{cond}
+use mathlib.Core.List.{List, [], _∷_, map}
+use native.Mathlib.Omega.{arith}
+use lib.Dec.{ltb, eqb}
+use lib.ListN.{length, getD, take}
+use Rattle.frame.proofs.Writing.{written}
+use Rattle.model.specs.Call.{Call, serve, input, Answer}
+use Rattle.model.specs.Box.{Box, Decision, setup, decide, perform, respond, after, answer, run}
+use Rattle.model.specs.Addressed.{isFor, answersTo, armOf}
+use Rattle.model.specs.Demand3.{Isolated}
+use Rattle.model.proofs.Laws.{cond-has}
+use Rattle.model.proofs.Isolation.{demand3}
+use Rattle.gateway.specs.Entries.{box}
+use Rattle.gateway.specs.History.{Made, served, inputMade, callOf, seen, tablesAfter, Promised, History, last, seenBy, CodeIsolated}
+
+-- ---- one call
+
+made-box : (b : Box) (m : Made) → Promised b m → box (b .stations) (tablesAfter m) ≡ after b (callOf m)
+unfolding after perform
+made-box b (served slice before sent t later) p = ap (box (b .stations)) (p .tables-are)
+made-box b (inputMade k port byte n t) p = ap (box (b .stations)) (p .tables-are)
+
+-- an input call gets no reply
+input-none : (b : Box) (k port byte : ℕ) → answer b (input k port byte) .reply ≡ []
+unfolding answer decide respond
+input-none b k port byte =
+    let P : Decision → Type 0 = λ d. respond b d .reply ≡ [] in
+    cond-has P (ltb 3 k) refl (cond-has P (eqb (getD (b .stations) k 0) 0) refl (cond-has P (ltb 31 port) refl refl))
+
+made-answer : (b : Box) (m : Made) → Promised b m → seen m ≡ answer b (callOf m)
+made-answer b (served slice before sent t later) p =
+    let a : Answer = answer b (serve slice (length before)) in
+    let w = p .answer-is in
+    let end : sent .length ≡ 0 + length (a .reply) = omega (arith, w .length-is) in
+    let bytes : take (sent .length) later ≡ a .reply = rw (end, w .area) (written before 0 (a .reply) (omega (arith, w .fits))) in
+    ap₂ (λ n r. record { number = n; reply = r }) (w .number) bytes
+made-answer b (inputMade k port byte n t) p =
+    ap₂ (λ n r. record { number = n; reply = r }) (p .number-is) (sym (input-none b k port byte))
+
+-- ---- all of them
+
+history-run : (ms : List Made) (b : Box) → History b ms → last b ms ≡ run b (map callOf ms)
+unfolding History last run
+history-run [] b h = refl
+history-run (m ∷ ms) b h =
+    history-run ms (box (b .stations) (tablesAfter m)) (h .1) ∙ ap (λ d. run d (map callOf ms)) (made-box b m (h .0))
+
+history-answers : (k : ℕ) (ms : List Made) (b : Box) → History b ms → seenBy k (b .stations) ms ≡ answersTo k b (map callOf ms)
+unfolding History seenBy answersTo
+history-answers k [] b h = refl
+history-answers k (m ∷ ms) b h =
+    ap₂ (λ x r. cond (isFor k (b .stations) (callOf m)) (x ∷ r) r) (made-answer b m (h .0))
+    (history-answers k ms (box (b .stations) (tablesAfter m)) (h .1) ∙ ap (λ d. answersTo k d (map callOf ms)) (made-box b m (h .0)))
+
+pub code-isolated : CodeIsolated
+code-isolated want number st t ms s h k f =
+    let e : box st t ≡ setup want = ap₂ box (s .stations-are) (s .tables-are) in
+    let cs : List Call = map callOf ms in
+    let i : Isolated (box st t) k cs = rw e (demand3 want cs .alone k (rw (← s .stations-are) f)) in
+    record {
+      tables = ap (armOf k) (history-run ms (box st t) h) ∙ i .tables;
+      answers = history-answers k ms (box st t) h ∙ i .answers;
+    }
