@@ -1,5 +1,6 @@
 // The fields of a body: parted by one SP each, so that two SPs together, or one at the end, enclose an
-// empty field. Every body has at least one field.
+// empty field. Every body has at least one field. The readers of requests and replies go from field to field by
+// `end_of`; `field_count`, `field_start` and `field` find a field by its number.
 use text::scan::find;
 ghost use mathlib.Core.Path.{_≡_};
 ghost use Prim.Native.Nat.{_≤_, _+_};

@@ -1,4 +1,6 @@
 // The frame reader: checks 2 to 7 of a slice, in their order.
+use crate::ETX;
+use crate::STX;
 use crate::checksum::lrc;
 use text::scan::find;
 use text::whole::Whole;
@@ -9,7 +11,7 @@ ghost use lib.ListN.{length};
 ghost use Rattle.frame.specs.Frame.{stray, stationOf, readInner, readFrame, Read};
 
 // The index of the first byte outside 20h..7Eh; s's length where there is none.
-pub fn find_stray(s: &[u8]) -> usize
+fn find_stray(s: &[u8]) -> usize
     ensures { λ r. ⌜ (r ≡ stray (now (s .entry))) × (r ≤ length (now (s .entry))) ⌝ }
 {
     let mut i = 0;
@@ -27,7 +29,7 @@ pub fn find_stray(s: &[u8]) -> usize
 }
 
 // The station that a text is; 0 where it is none.
-pub fn read_station(digits: &[u8]) -> u8
+fn read_station(digits: &[u8]) -> u8
     ensures { λ r. ⌜ r ≡ stationOf (now (digits .entry)) ⌝ }
 {
     if 0 < digits.len() {
@@ -86,12 +88,12 @@ pub fn read_frame<'a>(slice: &'a [u8], number: &mut u8, station: &mut u8) -> &'a
         *number = 2;
         return &slice[..0];
     }
-    if slice[0] != 2 {
+    if slice[0] != STX {
         *number = 3;
         return &slice[..0];
     }
     let etx = slice.len() - 2;
-    if slice[etx] != 3 {
+    if slice[etx] != ETX {
         *number = 4;
         return &slice[..0];
     }

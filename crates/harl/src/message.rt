@@ -31,7 +31,7 @@ pub enum Answered {
     Refused(u8),
 }
 
-// What a writer answers: the number of its refusal, or 0 and the length of the frame.
+// What a writer returns: the number of its refusal, or 0 and the length of the frame.
 #[repr(C)]
 pub struct Sent {
     pub number: u8,
@@ -117,8 +117,8 @@ pub fn write_reply(area: &mut [u8], station: u8, request: Request, outcome: Outc
         return Sent { number, length: 0 };
     }
     let at = open_frame(area, station);
-    let end = put_outcome(area, at, rule.store, outcome);
-    let length = close_frame(area, end);
+    let past = put_outcome(area, at, rule.store, outcome);
+    let length = close_frame(area, past);
     Sent { number: 0, length }
 }
 

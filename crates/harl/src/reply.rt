@@ -132,7 +132,7 @@ pub fn judge_outcome(rule: Rule, outcome: Outcome) -> u8
     }
 }
 
-// Writes a status below 100: two digits, after "E" for an LN.
+// Writes a status: two digits, after "E" for an LN; of 100 or more, the last two digits.
 pub fn put_status(area: &mut [u8], at: usize, store: bool, n: u8) -> usize
     requires { ⌜ at + length (statusText store n) ≤ length (now area) ⌝ }
     ensures { λ r. ⌜ Put (now (area .entry)) at (statusText store n) r (now (area .exit)) ⌝ }

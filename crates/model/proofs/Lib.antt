@@ -7,3 +7,4 @@ pub mod Isolation
 pub mod Ranges
 pub mod Link
 pub mod Runs
+pub mod Worked

@@ -7,3 +7,4 @@ pub mod Ranges
 pub mod Demand3
 pub mod Link
 pub mod Examples
+pub mod Worked

@@ -1,4 +1,4 @@
-// Bytes written at a place of a lent area. Each function answers the next place.
+// Bytes written from an index of a lent area on. Each function returns the index after the last byte written.
 ghost use mathlib.Core.List.{[], _∷_};
 ghost use Prim.Native.Nat.{_<_, _≤_, _+_};
 ghost use lib.ListN.{length};

@@ -1,4 +1,4 @@
-// The place of the first byte of a kind in a slice.
+// The index of the first byte of a given value in a slice.
 ghost use mathlib.Core.Path.{_≡_};
 ghost use Prim.Native.Nat.{_≤_, _+_};
 ghost use lib.ListN.{length, drop};

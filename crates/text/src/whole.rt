@@ -59,7 +59,7 @@ fn put_leading(area: &mut [u8], at: usize, unit: u16, v: u16) -> usize
     put_place(area, at, unit, v)
 }
 
-// Writes v, below 10000, with no leading zero.
+// Writes v with no leading zero; of 10000 or more, the last 4 digits.
 pub fn put_shortest(area: &mut [u8], at: usize, v: u16) -> usize
     requires { ⌜ at + length (shortest v) ≤ length (now area) ⌝ }
     ensures { λ r. ⌜ Put (now (area .entry)) at (shortest v) r (now (area .exit)) ⌝ }
@@ -70,7 +70,7 @@ pub fn put_shortest(area: &mut [u8], at: usize, v: u16) -> usize
     put_place(area, ones, 1, v)
 }
 
-// Writes v, below 10000, with 4 digits.
+// Writes v with 4 digits; of 10000 or more, the last 4.
 pub fn put_padded(area: &mut [u8], at: usize, v: u16) -> usize
     requires { ⌜ at + 4 ≤ length (now area) ⌝ }
     ensures { λ r. ⌜ Put (now (area .entry)) at (padded v) r (now (area .exit)) ⌝ }

@@ -20,6 +20,9 @@ use Rattle.harl.specs.declared.reply.Outcome.the-variants.{Status}
 use Rattle.harl.specs.Body.{readBody}
 use Rattle.harl.specs.Message.{writeRequest, writeReply}
 use Rattle.tables.specs.Chart.{placeOf}
+use Rattle.model.specs.Call.{serve}
+use Rattle.model.specs.Box.{setup}
+use Rattle.model.specs.Box as box
 
 pub data Question : Type 0 where
   -- the frame of a station and a body
@@ -34,6 +37,8 @@ pub data Question : Type 0 where
   requested : ℕ → Request → Question
   -- a reply to it
   replied : ℕ → Request → Outcome → Question
+  -- a slice served by a new box of stations 1 to 4, with a reply area of 64 bytes
+  served : List ℕ → Question
   -- a body judged as a request: checks 9 to 12
   judged : List ℕ → Question
   -- the place of a signal, in a chart that starts with the first
@@ -57,6 +62,9 @@ answer (read text) = hundredths (readHundredths text)
 answer (written z) = bytes (hundredthsText z)
 answer (requested station r) = sent (writeRequest 64 station r .number) (writeRequest 64 station r .bytes)
 answer (replied station r o) = sent (writeReply 64 station r o .number) (writeReply 64 station r o .bytes)
+answer (served slice) =
+    let a = box.answer (setup (1 ∷ 2 ∷ 3 ∷ 4 ∷ [])) (serve slice 64) in
+    sent (a .number) (a .reply)
 answer (judged body) = verdict (readBody body)
 answer (placed first n) = place (placeOf first n .port) (placeOf first n .bit)
 
@@ -71,6 +79,8 @@ worked =
     -- P2 from typed values: 42 into register 63 of station 2; the reply that it is done
     ∷ (requested 2 (Store (Register 63 (pos 42))), sent 0 (0x02 ∷ 0x32 ∷ 0x20 ∷ 0x53 ∷ 0x4E ∷ 0x44 ∷ 0x20 ∷ 0x36 ∷ 0x33 ∷ 0x20 ∷ 0x30 ∷ 0x30 ∷ 0x34 ∷ 0x32 ∷ 0x03 ∷ 0x4B ∷ []))
     ∷ (replied 2 (Store (Register 63 (pos 42))) (Status 0), sent 0 (0x02 ∷ 0x32 ∷ 0x20 ∷ 0x30 ∷ 0x30 ∷ 0x03 ∷ 0x11 ∷ []))
+    -- P2 served
+    ∷ (served (0x02 ∷ 0x32 ∷ 0x20 ∷ 0x53 ∷ 0x4E ∷ 0x44 ∷ 0x20 ∷ 0x36 ∷ 0x33 ∷ 0x20 ∷ 0x30 ∷ 0x30 ∷ 0x34 ∷ 0x32 ∷ 0x03 ∷ 0x4B ∷ []), sent 0 (0x02 ∷ 0x32 ∷ 0x20 ∷ 0x30 ∷ 0x30 ∷ 0x03 ∷ 0x11 ∷ []))
     -- P3: "-0.05"
     ∷ (read (0x2D ∷ 0x30 ∷ 0x2E ∷ 0x30 ∷ 0x35 ∷ []), hundredths (Value (negℤ (pos 5))))
     -- P4: "-0"

@@ -1,0 +1,25 @@
+-- The statement of specs/Worked.antt, by computation.
+use mathlib.Core.Path.{refl}
+use Rattle.text.specs.Scan.{until}
+use Rattle.text.specs.Whole.{readWhole, digitsOnto, place, leading, shortest, padded}
+use Rattle.text.specs.Hundredths.{decimals, magnitude, readHundredths, magnitudeText, hundredthsText}
+use Rattle.frame.specs.Checksum.{xorOnto, lrcOf}
+use Rattle.frame.specs.Frame.{stationOf, readInner, readFrame, opening, closing, frameOf}
+use Rattle.frame.specs.Fields.{first, more, fields}
+use Rattle.commands.specs.Command.{same, nameOf, among, commandOf}
+use Rattle.harl.specs.Data.{inRange, allInRange, judge}
+use Rattle.harl.specs.Body.{readShape, decided, readBody, bodyText}
+use Rattle.harl.specs.Reply.{judgeOutcome, statusText, outcomeText}
+use Rattle.harl.specs.Message.{judgeAsked, writeRequest, judgeReply, writeReply}
+use Rattle.tables.specs.Tables.{loaded, stored, zeros}
+use Rattle.model.specs.Box.{lacks, distinct, small, setupNumber, setup, scan, slotOf, decide, respond}
+use Rattle.model.specs.Box as box
+use Rattle.model.specs.Worked.{answer, worked, Worked}
+
+pub worked-out : Worked
+unfolding answer worked until readWhole digitsOnto place leading shortest padded decimals magnitude
+    readHundredths magnitudeText hundredthsText xorOnto lrcOf opening closing frameOf first more fields same
+    nameOf among commandOf inRange allInRange judge readShape decided readBody bodyText judgeOutcome statusText
+    outcomeText judgeAsked writeRequest judgeReply writeReply stationOf readInner readFrame loaded stored zeros
+    lacks distinct small setupNumber setup scan slotOf decide respond box.answer
+worked-out = refl
