@@ -1,7 +1,7 @@
 -- Frames, read and written (document 01, "The frame" and refusals 2 to 7).
 use Prim.Native.Nat.{ℕ, _+_, _-_, _≤_}
 use mathlib.Core.Path.{_≡_}
-use mathlib.Core.Bool.{Bool, cond, _||_}
+use mathlib.Core.Bool.{Bool, cond, not, _||_}
 use mathlib.Core.List.{List, [], _∷_, _++_}
 use lib.ListN.{length, getD, take, drop}
 use lib.Dec.{ltb, eqb}
@@ -63,13 +63,10 @@ readInner t =
 unfoldable pub readFrame : List ℕ → Reading
 readFrame s =
     cond (ltb (length s) 6 || ltb 255 (length s)) (refused 2)
-    (cond (eqb (getD s 0 0) 2)
-    (cond (eqb (getD s (length s - 2) 0) 3)
-    (cond (eqb (getD s (length s - 1) 0) (lrcOf (between 1 (length s - 1) s)))
-    (readInner (between 1 (length s - 2) s))
-    (refused 5))
-    (refused 4))
-    (refused 3))
+    (cond (not (eqb (getD s 0 0) 2)) (refused 3)
+    (cond (not (eqb (getD s (length s - 2) 0) 3)) (refused 4)
+    (cond (not (eqb (getD s (length s - 1) 0) (lrcOf (between 1 (length s - 1) s)))) (refused 5)
+    (readInner (between 1 (length s - 2) s)))))
 
 -- STX, the station, SP
 unfoldable pub opening : ℕ → List ℕ
