@@ -12,15 +12,22 @@ use lines::writer::put_no_call;
 ghost use mathlib.Core.Path.{_≡_};
 ghost use Prim.Native.Nat.{_+_, _≤_};
 ghost use lib.ListN.{length, take};
+ghost use Rattle.tables.specs.Tables.{tables};
+ghost use Rattle.gateway.specs.Entries.{box};
+ghost use Rattle.cell.specs.Cell.{roomAt, CallAnswered, LineAnswered};
 
-// The bytes held of the line that has not ended, and the bytes of output that wait to be written.
-struct Progress(usize, usize);
+// How far the program is: the bytes held of the line that has not ended, and the bytes of output that wait
+// to be written.
+struct Progress {
+    held: usize,
+    waiting: usize,
+}
 
 // Writes the waiting bytes out where fewer than 132 are free, which the longest answer has: two digits, a
-// space, a reply of 64 bytes, LF.
+// space, a reply of 64 bytes, LF. Returns how many bytes then wait.
 fn make_room(out: &[u8], at: usize) -> usize
     requires { ⌜ at ≤ length (now out) ⌝ }
-    ensures { λ r. ⌜ r + 132 ≤ 65536 ⌝ }
+    ensures { λ r. ⌜ (r ≡ roomAt at) × (r + 132 ≤ 65536) ⌝ }
 {
     if at <= 65404 {
         return at;
@@ -29,7 +36,7 @@ fn make_room(out: &[u8], at: usize) -> usize
     0
 }
 
-// Answers one call.
+// Serves one call, and puts the line of its answer at `at`. Returns the next place.
 fn answer_call(
     timers: &mut [[u16; 16]; 4],
     registers: &mut [[u16; 64]; 4],
@@ -44,7 +51,7 @@ fn answer_call(
     at: usize,
 ) -> usize
     requires { ⌜ at + 132 ≤ length (now out) ⌝ }
-    ensures { λ r. ⌜ r ≤ at + 132 ⌝ }
+    ensures { λ r. ⌜ CallAnswered (box (now (stations .entry)) (tables (now (timers .entry)) (now (registers .entry)) (now (x .entry)) (now (y .entry)) (now (inputs .entry)) (now (outputs .entry)) (now (memory .entry)))) (now (slice .entry)) (now (out .entry)) at r (now (out .exit)) (tables (now (timers .exit)) (now (registers .exit)) (now (x .exit)) (now (y .exit)) (now (inputs .exit)) (now (outputs .exit)) (now (memory .exit))) ⌝ }
 {
     let mut reply = [0u8; 64];
     let sent = serve(
@@ -63,7 +70,7 @@ fn answer_call(
     put_answer(out, at, sent.number, &reply[..length])
 }
 
-// Answers one line.
+// Answers one line, behind the `at` bytes that wait or at the front. Returns how many bytes then wait.
 fn answer_line(
     timers: &mut [[u16; 16]; 4],
     registers: &mut [[u16; 64]; 4],
@@ -78,7 +85,7 @@ fn answer_line(
     at: usize,
 ) -> usize
     requires { ⌜ at ≤ 65536 ⌝ }
-    ensures { λ r. ⌜ r ≤ 65536 ⌝ }
+    ensures { λ r. ⌜ LineAnswered (box (now (stations .entry)) (tables (now (timers .entry)) (now (registers .entry)) (now (x .entry)) (now (y .entry)) (now (inputs .entry)) (now (outputs .entry)) (now (memory .entry)))) (now (line .entry)) (now (out .entry)) at r (now (out .exit)) (tables (now (timers .exit)) (now (registers .exit)) (now (x .exit)) (now (y .exit)) (now (inputs .exit)) (now (outputs .exit)) (now (memory .exit))) ⌝ }
 {
     let from = make_room(&out[..], at);
     let mut slice = [0u8; 256];
@@ -124,11 +131,11 @@ fn step(
     out: &mut [u8; 65536],
     start: Progress,
 ) -> Progress
-    requires { ⌜ (start .0 ≤ 513) × (start .1 ≤ 65536) ⌝ }
-    ensures { λ r. ⌜ (r .0 ≤ 513) × (r .1 ≤ 65536) ⌝ }
+    requires { ⌜ (start .held ≤ 513) × (start .waiting ≤ 65536) ⌝ }
+    ensures { λ r. ⌜ (r .held ≤ 513) × (r .waiting ≤ 65536) ⌝ }
 {
-    let n = start.0;
-    let at = start.1;
+    let n = start.held;
+    let at = start.waiting;
     if b == b'\n' {
         let next = answer_line(
             timers,
@@ -143,10 +150,16 @@ fn step(
             out,
             at,
         );
-        return Progress(0, next);
+        return Progress {
+            held: 0,
+            waiting: next,
+        };
     }
     let more = take_byte(held, n, b);
-    Progress(more, at)
+    Progress {
+        held: more,
+        waiting: at,
+    }
 }
 
 // Takes the first n bytes of a block of input.
@@ -165,8 +178,8 @@ fn answer_block(
     out: &mut [u8; 65536],
     start: Progress,
 ) -> Progress
-    requires { ⌜ (n ≤ 65536) × ((start .0 ≤ 513) × (start .1 ≤ 65536)) ⌝ }
-    ensures { λ r. ⌜ (r .0 ≤ 513) × (r .1 ≤ 65536) ⌝ }
+    requires { ⌜ (n ≤ 65536) × ((start .held ≤ 513) × (start .waiting ≤ 65536)) ⌝ }
+    ensures { λ r. ⌜ (r .held ≤ 513) × (r .waiting ≤ 65536) ⌝ }
 {
     let mut state = start;
     let mut i = 0;
@@ -190,7 +203,7 @@ fn answer_block(
     state
 }
 
-// Reads a block of input, and answers how many bytes came: none at the input's end.
+// Reads a block of input, and returns how many bytes came: none at the input's end.
 fn read_block(input: &mut [u8; 65536]) -> usize
     ensures { λ r. ⌜ r ≤ 65536 ⌝ }
 {
@@ -212,10 +225,13 @@ fn answer_blocks(
     held: &mut [u8; 513],
     out: &mut [u8; 65536],
 ) -> Progress
-    ensures { λ r. ⌜ (r .0 ≤ 513) × (r .1 ≤ 65536) ⌝ }
+    ensures { λ r. ⌜ (r .held ≤ 513) × (r .waiting ≤ 65536) ⌝ }
 {
     let mut input = io::large_buffer();
-    let mut state = Progress(0, 0);
+    let mut state = Progress {
+        held: 0,
+        waiting: 0,
+    };
     let mut blocks = u64::MAX;
     let mut n = read_block(&mut input);
     while 0 < n && 0 < blocks {
@@ -254,10 +270,10 @@ fn answer_rest(
     out: &mut [u8; 65536],
     state: Progress,
 )
-    requires { ⌜ (state .0 ≤ 513) × (state .1 ≤ 65536) ⌝ }
+    requires { ⌜ (state .held ≤ 513) × (state .waiting ≤ 65536) ⌝ }
 {
-    let n = state.0;
-    let mut at = state.1;
+    let n = state.held;
+    let mut at = state.waiting;
     if 0 < n {
         at = answer_line(
             timers,
@@ -276,6 +292,7 @@ fn answer_rest(
     io::write_all(STDOUT_FILENO, front(&out[..], at));
 }
 
+// Answers every line of standard input on tables that are set up.
 fn answer_all(
     timers: &mut [[u16; 16]; 4],
     registers: &mut [[u16; 64]; 4],
@@ -315,6 +332,7 @@ fn answer_all(
     );
 }
 
+// Sets up stations 1 to 4, and answers.
 fn main() {
     let mut timers = [[0u16; 16]; 4];
     let mut registers = [[0u16; 64]; 4];

@@ -1,4 +1,5 @@
--- Laws about lines: a line from an index on, what a call's digits are, and the length of what is written.
+-- Laws about lines: a line from an index on, what a call's digits are, when a line is read as a call, and the
+-- length of what is written.
 use Prim.Native.Nat.{ℕ, zero, suc, _+_, _*_, _/_, _%_, _≤_, _<_}
 use mathlib.Core.Path.{_≡_, refl}
 use mathlib.Core.Bool.{Bool, true, false, cond, _&&_}
@@ -10,7 +11,8 @@ use lib.Seq.{sets, length-sets}
 use lib.Dec.{ltb}
 use Rattle.text.proofs.Laws.{here, over}
 use Rattle.text.proofs.Digits.{place-length}
-use Rattle.lines.specs.Lines.{value, allCapitals, isCall, sliceOf, heldAfter, capital, hexText, replyText, answerLine}
+use Rattle.lines.specs.declared.reader.Line.the-variants.{Slice, NoCall}
+use Rattle.lines.specs.Lines.{value, allCapitals, isCall, sliceOf, lineOf, heldAfter, capital, hexText, replyText, answerLine}
 
 -- ---- digits
 
@@ -72,6 +74,24 @@ held-length xs s = go (isCall s)
     go : (t : Bool) → length (cond t (sets xs 0 (sliceOf s)) xs) ≡ length xs
     go true = length-sets xs 0 (sliceOf s)
     go false = refl
+
+-- ---- a line read as a slice, and as no call
+
+pub read-slice : (s : List ℕ) (n : ℕ) → lineOf s ≡ Slice n → (isCall s ≡ true) × (n ≡ length (sliceOf s))
+unfolding lineOf
+read-slice s n e = go (isCall s) refl e
+  where
+    go : (t : Bool) → isCall s ≡ t → cond t (Slice (length (sliceOf s))) NoCall ≡ Slice n → (isCall s ≡ true) × (n ≡ length (sliceOf s))
+    go true q e = (q, cc)
+    go false q e = let z : _≡_ {A = ℕ} 0 1 = cc in absurd (omega arith)
+
+pub read-no-call : (s : List ℕ) → lineOf s ≡ NoCall → isCall s ≡ false
+unfolding lineOf
+read-no-call s e = go (isCall s) refl e
+  where
+    go : (t : Bool) → isCall s ≡ t → cond t (Slice (length (sliceOf s))) NoCall ≡ NoCall → isCall s ≡ false
+    go true q e = let z : _≡_ {A = ℕ} 0 1 = cc in absurd (omega arith)
+    go false q e = q
 
 -- ---- what is written
 

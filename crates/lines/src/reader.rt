@@ -51,7 +51,7 @@ fn is_call(line: &[u8]) -> bool
     true
 }
 
-// Writes the bytes that the line spells to the front of `slice`, and answers how many.
+// Writes the bytes that the line spells to the front of `slice`, and returns how many.
 fn put_slice(line: &[u8], slice: &mut [u8; 256]) -> usize
     requires { ⌜ isCall (now line) ≡ true ⌝ }
     ensures { λ r. ⌜ (r ≡ length (sliceOf (now (line .entry)))) × (r ≤ 256) ⌝ }

@@ -1,4 +1,4 @@
--- What a decision does to the arm of slot k: one that concerns it goes as the lone box goes, and one that
+-- What a decision does to the arm of slot k: one that concerns it does what the lone box does, and one that
 -- concerns another slot leaves it as it was.
 use Prim.Native.Nat.{ℕ, _<_}
 use mathlib.Core.Path.{_≡_, refl, sym, ap}

@@ -1,4 +1,4 @@
--- Over any list of calls each arm goes as its lone box (demand 3), and the tables keep their shape.
+-- Over any list of calls each arm behaves as its lone box (demand 3), and the tables keep their shape.
 use Prim.Native.Nat.{ℕ, _<_}
 use mathlib.Core.Path.{_≡_, refl, sym, ap, ap₂, _∙_, subst}
 use mathlib.Core.Bool.{Bool, true, false, cond}

@@ -9,7 +9,7 @@ use Rattle.model.specs.Box.{Box, setup, after, answer, run}
 use Rattle.model.specs.Lone.{zeroArm, runLone, answersLone}
 use Rattle.model.specs.Addressed.{Fitted, isFor, eventsFor, answersTo, armOf}
 
--- the arm of slot k goes as the lone box that has its station and is fed its calls alone
+-- the arm of slot k behaves as the lone box that has its station and gets its calls alone
 pub record Isolated (b : Box) (k : ℕ) (cs : List Call) : Type 0 where
   pub tables : armOf k (run b cs) ≡ runLone (getD (b .stations) k 0) zeroArm (eventsFor k (b .stations) cs)
   pub answers : answersTo k b cs ≡ answersLone (getD (b .stations) k 0) zeroArm (eventsFor k (b .stations) cs)

@@ -6,7 +6,7 @@ use Rattle.cell.proofs.answer_block.Tie as tie
 
 abbrev Inv-loop : tie.InvT-loop
 Inv-loop timers₀ registers₀ x₀ y₀ inputs₀ outputs₀ memory₀ stations input n held₀ out₀ state₀ i₀ timers registers x y inputs outputs memory held out state i =
-    (i ≤ n) × ((state .0 ≤ 513) × (state .1 ≤ 65536))
+    (i ≤ n) × ((state .held ≤ 513) × (state .waiting ≤ 65536))
 
 abbrev μ-loop : tie.MeasureT-loop
 μ-loop timers₀ registers₀ x₀ y₀ inputs₀ outputs₀ memory₀ stations input n held₀ out₀ state₀ i₀ timers registers x y inputs outputs memory held out state i =

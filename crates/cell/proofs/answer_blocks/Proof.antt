@@ -8,7 +8,7 @@ use Rattle.cell.proofs.answer_blocks.Tie as tie
 
 abbrev Inv-loop : tie.InvT-loop
 Inv-loop timers₀ registers₀ x₀ y₀ inputs₀ outputs₀ memory₀ stations held₀ out₀ input₀ state₀ blocks₀ n₀ timers registers x y inputs outputs memory held out input state blocks n =
-    (n ≤ 65536) × ((state .0 ≤ 513) × (state .1 ≤ 65536))
+    (n ≤ 65536) × ((state .held ≤ 513) × (state .waiting ≤ 65536))
 
 abbrev μ-loop : tie.MeasureT-loop
 μ-loop timers₀ registers₀ x₀ y₀ inputs₀ outputs₀ memory₀ stations held₀ out₀ input₀ state₀ blocks₀ n₀ timers registers x y inputs outputs memory held out input state blocks n =

@@ -1,14 +1,46 @@
--- A reply has at most 64 bytes, so its line at most 132.
-use Prim.Native.Nat.{_≤_}
-use mathlib.Core.Path.{_≡_, sym}
+-- The reply area has 64 bytes, so the line of an answer has at most 132.
+use Prim.Native.Nat.{ℕ, _+_, _≤_}
+use mathlib.Core.Path.{_≡_, refl, sym}
+use mathlib.Core.List.{List}
 use native.Mathlib.Omega.{arith}
 use borrow.Author.Needs.{needs}
 use lib.ListN.{length, take}
-use lib.Seq.{length-take-le}
-use Rattle.gateway.proofs.Replies.{served-short}
+use lib.Seq.{length-take-le, length-sets}
+use Rattle.text.specs.Put.{Put}
+use Rattle.harl.specs.declared.message.Sent.{Sent}
+use Rattle.tables.specs.Tables.{Tables}
+use Rattle.model.specs.Box.{Box, answer}
+use Rattle.gateway.specs.Entries.{Served}
+use Rattle.gateway.proofs.Replies.{served-fits}
+use Rattle.lines.specs.Lines.{answerLine}
 use Rattle.lines.proofs.Laws.{answer-short}
+use Rattle.cell.specs.Cell.{callOf, CallAnswered}
+use Rattle.cell.proofs.Laws.{front-is}
 use Rattle.cell.proofs.answer_call.Statement.{statement}
 use Rattle.cell.proofs.answer_call.Tie as tie
+
+module _ {b : Box} {slice xs ys : List ℕ} {sent : Sent} {t : Tables} (room : length xs ≡ 64) (s : Served b slice xs sent t ys) where
+  within : sent .length ≤ length ys
+  within = rw (s .answer-is .area, length-sets) (served-fits s)
+
+  number-is : sent .number ≡ answer b (callOf slice) .number
+  number-is = rw (← room) (s .answer-is .number)
+
+  -- the reply is the first bytes of its area
+  reply-is : take (sent .length) ys ≡ answer b (callOf slice) .reply
+  reply-is = rw (s .answer-is .area, s .answer-is .length-is, ← room) (front-is xs _ (s .answer-is .fits))
+
+  -- a line of any number has room where 132 bytes have
+  line-fits : (n at end : ℕ) → at + 132 ≤ end → at + length (answerLine n (take (sent .length) ys)) ≤ end
+  line-fits n at end h = omega (arith, answer-short n (take (sent .length) ys), length-take-le (sent .length) ys within, served-fits s)
+
+  answered : {zs us : List ℕ} {at r : ℕ} → Put zs at (answerLine (sent .number) (take (sent .length) ys)) r us → CallAnswered b slice zs at r us t
+  answered p =
+      record {
+        answer-is = rw (reply-is, number-is) at p;
+        tables-are = rw room at (s .tables-are);
+        short = omega (arith, p .next, line-fits (sent .number) 0 132 (omega arith));
+      }
 
 slice-aggregate-serve : tie.Need-slice-aggregate-serve
 slice-aggregate-serve c = search needs
@@ -17,26 +49,14 @@ serve-requires : tie.Need-serve-requires
 serve-requires c κs = search needs
 
 array-share-prefix-reply : tie.Need-array-share-prefix-reply
-array-share-prefix-reply c = omega (arith, served-short (c .before .before .serve .ensures))
+array-share-prefix-reply c = within refl (c .before .before .serve .ensures)
 
 slice-aggregate-put-answer : tie.Need-slice-aggregate-put-answer
-slice-aggregate-put-answer c =
-    let s = c .before .before .before .serve in
-    let n = s .result .length in
-    let sent = s .last .1 .1 .1 .1 .1 .1 .1 .1 .1 .0 in
-    let l : 64 ≤ length sent = search needs in
-    let h : n ≤ length sent = omega (arith, served-short (s .ensures)) in
-    sym (length-take-le n sent h)
+slice-aggregate-put-answer c = sym (length-take-le _ _ (within refl (c .before .before .before .serve .ensures)))
 
 put-answer-requires : tie.Need-put-answer-requires
 put-answer-requires c κs =
-    let s = c .before .before .before .serve in
-    let n = s .result .length in
-    let sent = s .last .1 .1 .1 .1 .1 .1 .1 .1 .1 .0 in
-    let l : 64 ≤ length sent = search needs in
-    let h : n ≤ length sent = omega (arith, served-short (s .ensures)) in
-    let k : length (take n sent) ≡ n = length-take-le n sent h in
-    omega (arith, answer-short (s .result .number) (take n sent))
+    line-fits refl (c .before .before .before .serve .ensures) _ _ _ (omega arith)
 
 same-length : tie.Need-same-length
 same-length c = search needs
@@ -44,13 +64,7 @@ same-length c = search needs
 returns : tie.Need-returns
 returns c =
     let p = c .before .before in
-    let s = p .before .before .before .before .serve in
-    let n = s .result .length in
-    let sent = s .last .1 .1 .1 .1 .1 .1 .1 .1 .1 .0 in
-    let l : 64 ≤ length sent = search needs in
-    let h : n ≤ length sent = omega (arith, served-short (s .ensures)) in
-    let k : length (take n sent) ≡ n = length-take-le n sent h in
-    omega (arith, answer-short (s .result .number) (take n sent), p .put-answer .ensures .next)
+    answered refl (p .before .before .before .before .serve .ensures) (p .put-answer .ensures)
 
 pub answer-call-spec : {M : Type 1} → statement M
 answer-call-spec =

@@ -1,14 +1,57 @@
--- A slice has at most the 256 bytes that are lent for it.
-use Prim.Native.Nat.{_≤_}
-use mathlib.Core.Path.{sym, ap, _∙_, subst}
+-- `r` is where the line was read, and `m` where the match found what it is.
+use Prim.Native.Nat.{ℕ, _+_, _≤_}
+use mathlib.Core.Path.{_≡_, refl, sym, _∙_, subst}
+use mathlib.Core.Bool.{true, false}
+use mathlib.Core.List.{List}
 use native.Mathlib.Omega.{arith}
 use borrow.Author.Needs.{needs}
-use lib.ListN.{length}
+use lib.ListN.{length, take}
 use lib.Seq.{length-take-le}
-use Rattle.lines.specs.Lines.{Short}
-use Rattle.lines.proofs.Laws.{held-length}
+use Rattle.text.specs.Put.{Put}
+use Rattle.tables.specs.Tables.{Tables}
+use Rattle.model.specs.Box.{Box}
+use Rattle.lines.specs.declared.reader.Line.{Line}
+use Rattle.lines.specs.declared.reader.Line.the-variants.{Slice, NoCall}
+use Rattle.lines.specs.Lines.{isCall, sliceOf, lineOf, heldAfter, Short, noCallLine}
+use Rattle.lines.proofs.Laws.{held-length, read-slice, read-no-call}
+use Rattle.cell.specs.Cell.{lineAnswer, boxAfter, roomAt, CallAnswered, LineAnswered}
+use Rattle.cell.proofs.Laws.{front-is}
 use Rattle.cell.proofs.answer_line.Statement.{statement}
 use Rattle.cell.proofs.answer_line.Tie as tie
+
+-- ---- a line that is a slice of n bytes, which stand at the front of sl
+
+module _ (line xs : List ℕ) {sl : List ℕ} {what : Line} {n : ℕ} (room : length xs ≡ 256) (found : what ≡ Slice n) (read : ((what ≡ lineOf line) × Short what) × (sl ≡ heldAfter xs line)) where
+  call-is : (isCall line ≡ true) × (n ≡ length (sliceOf line))
+  call-is = read-slice line n (sym (read .0 .0) ∙ found)
+
+  short : n ≤ 256
+  short = subst Short found (read .0 .1)
+
+  within : n ≤ length sl
+  within = rw (read .1) (omega (arith, held-length xs line, short))
+
+  slice-is : take n sl ≡ sliceOf line
+  unfolding heldAfter
+  slice-is =
+      let k : length (sliceOf line) ≤ length xs = omega (arith, short, call-is .1) in
+      rw (read .1, call-is .0, call-is .1) (front-is xs (sliceOf line) k)
+
+  call-answered : {b : Box} {zs us : List ℕ} {at from r : ℕ} {t : Tables} → (from ≡ roomAt at) × (from + 132 ≤ 65536) → CallAnswered b (take n sl) zs from r us t → LineAnswered b line zs at r us t
+  unfolding lineAnswer boxAfter
+  call-answered {b} {zs} {us} {at} {from} {r} {t} f a =
+      record {
+        answer-is = rw (call-is .0, ← f .0, ← slice-is) (a .answer-is);
+        tables-are = rw (call-is .0, ← slice-is) (a .tables-are);
+        within = omega (arith, a .short);
+      }
+
+-- ---- a line that is no call
+
+none-answered : {b : Box} {line zs us : List ℕ} {at from r : ℕ} → isCall line ≡ false → (from ≡ roomAt at) × (from + 132 ≤ 65536) → Put zs from noCallLine r us → LineAnswered b line zs at r us (b .tables)
+unfolding lineAnswer boxAfter
+none-answered q f p =
+    record { answer-is = rw (q, ← f .0) p; tables-are = rw q; within = omega (arith, p .next) }
 
 make-room-requires : tie.Need-make-room-requires
 make-room-requires c κs = search needs
@@ -22,16 +65,12 @@ enum-known-what c = search needs
 array-share-prefix-slice : tie.Need-array-share-prefix-slice
 array-share-prefix-slice c =
     let m = c .before .before .before .before .before .before .before .before in
-    let r = m .before .before .read-line in
-    let h : m .what .given .0 .0 ≤ 256 = subst Short (m .what .given .1) (r .ensures .0 .1) in
-    omega (arith, ap length (r .ensures .1) ∙ held-length _ _)
+    within _ _ refl (m .what .given .1) (m .before .before .read-line .ensures)
 
 slice-aggregate-answer-call : tie.Need-slice-aggregate-answer-call
 slice-aggregate-answer-call c =
     let m = c .before .before .before .before .before .before .before .before .before in
-    let r = m .before .before .read-line in
-    let h : m .what .given .0 .0 ≤ 256 = subst Short (m .what .given .1) (r .ensures .0 .1) in
-    sym (length-take-le (m .what .given .0 .0) (r .last .1 .0) (omega (arith, ap length (r .ensures .1) ∙ held-length _ _)))
+    sym (length-take-le _ _ (within _ _ refl (m .what .given .1) (m .before .before .read-line .ensures)))
 
 answer-call-requires : tie.Need-answer-call-requires
 answer-call-requires c κs = search needs
@@ -43,10 +82,16 @@ put-no-call-requires : tie.Need-put-no-call-requires
 put-no-call-requires c κs = search needs
 
 returns : tie.Need-returns
-returns c = search needs
+returns c =
+    let m = c .before .before .before .before .before .before .before .before .before .before .before in
+    let r = m .before .before in
+    call-answered _ _ refl (m .what .given .1) (r .read-line .ensures) (r .before .before .make-room .ensures) (c .answer-call .ensures)
 
 returns-2 : tie.Need-returns-2
-returns-2 c = search needs
+returns-2 c =
+    let m = c .before .before in
+    let r = m .before .before in
+    none-answered (read-no-call _ (sym (r .read-line .ensures .0 .0) ∙ m .enum-told .given .1)) (r .before .before .make-room .ensures) (c .put-no-call .ensures)
 
 pub answer-line-spec : {M : Type 1} → statement M
 answer-line-spec =
