@@ -5,7 +5,7 @@ use mathlib.Core.Bool.{Bool, _||_}
 use native.Mathlib.Omega.{arith}
 use borrow.Author.Tests.{eqb-true, ne-eqb}
 use lib.Dec.{eqb}
-use Rattle.tables.specs.Bits.{bit, withBit}
+use Rattle.tables.specs.Bits.{bit, withBit, BitStored, OtherBitsKept, sum, PortIsSum}
 use Rattle.tables.proofs.Laws.{all, all-at}
 
 -- what the steps of `with_bit` ask at bit k of the byte b and the new bit v, and what they leave there
@@ -32,14 +32,14 @@ module _ (b k v : ℕ) (hb : b < 256) (hk : k < 8) (hv : v < 2) where
   pub with-bit-byte : withBit b k v < 256
   with-bit-byte = steps b k v hb hk hv .byte
 
-  pub bit-same : bit (withBit b k v) k ≡ v
-  bit-same = steps b k v hb hk hv .same
+pub bit-same : BitStored
+bit-same b k v hb hk hv = steps b k v hb hk hv .same
 
 -- bit j is as it was, where j is not k
 abbrev kept : ℕ → ℕ → ℕ → ℕ → Bool
 kept b k v j = eqb j k || eqb (bit (withBit b k v) j) (bit b j)
 
-pub bit-other : (b k v j : ℕ) → b < 256 → k < 8 → v < 2 → j < 8 → (j ≡ k → ⊥) → bit (withBit b k v) j ≡ bit b j
+pub bit-other : OtherBitsKept
 bit-other b k v j hb hk hv hj n =
     eqb-true _ _
     (rw (ne-eqb j k n) at (all-at 8 (kept b k v)
@@ -47,9 +47,5 @@ bit-other b k v j hb hk hv hj n =
     (all-at 8 (λ k. all 2 (λ v. all 8 (kept b k v)))
     (all-at 256 (λ b. all 8 (λ k. all 2 (λ v. all 8 (kept b k v)))) refl b hb) k hk) v hv) j hj))
 
--- a byte is the sum of 2^k over its bits that are on
-abbrev sum : ℕ → ℕ
-sum b = bit b 0 * 1 + bit b 1 * 2 + bit b 2 * 4 + bit b 3 * 8 + bit b 4 * 16 + bit b 5 * 32 + bit b 6 * 64 + bit b 7 * 128
-
-pub port-is-sum : (b : ℕ) → b < 256 → b ≡ sum b
+pub port-is-sum : PortIsSum
 port-is-sum b h = eqb-true b (sum b) (all-at 256 (λ b. eqb b (sum b)) refl b h)

@@ -7,7 +7,7 @@ use native.Mathlib.Omega.{arith}
 use borrow.Author.Tests.{eqb-true}
 use lib.Dec.{eqb}
 use lib.ListN.{length, getD}
-use Rattle.tables.specs.Chart.{Charted, signals, memoryBits}
+use Rattle.tables.specs.Chart.{Charted, signals, memoryBits, Charts}
 use Rattle.tables.proofs.Laws.{all, all-at}
 
 -- what stands at place i of a chart
@@ -27,3 +27,7 @@ signals-charted = charted 0 signals refl
 
 pub memory-bits-charted : Charted 256 memoryBits
 memory-bits-charted = charted 256 memoryBits refl
+
+pub charts : Charts
+charts =
+    record { signals-size = refl; signals-rule = signals-charted; memory-size = refl; memory-rule = memory-bits-charted }

@@ -70,3 +70,10 @@ memoryBits =
     375 ∷ 374 ∷ 373 ∷ 372 ∷ 371 ∷ 370 ∷ 369 ∷ 368 ∷
     383 ∷ 382 ∷ 381 ∷ 380 ∷ 379 ∷ 378 ∷ 377 ∷ 376 ∷
     []
+
+-- the charts as the manual prints them, 32 rows of eight and 16, by that rule (proved in proofs/Charts.antt)
+pub record Charts : Type 0 where
+  pub signals-size : length signals ≡ 32 * 8
+  pub signals-rule : Charted 0 signals
+  pub memory-size : length memoryBits ≡ 16 * 8
+  pub memory-rule : Charted 256 memoryBits
