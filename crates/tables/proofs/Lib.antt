@@ -1,3 +1,4 @@
 pub mod Bits
 pub mod Charts
 pub mod Laws
+pub mod Ranges

@@ -1,7 +1,8 @@
 // The charts of signals: which signal each bit of each port is, as the manual prints them, a row of eight
 // for each port, highest bit first. Signals are found by them.
+use commands::request::Signal;
 ghost use mathlib.Core.Path.{_≡_};
-ghost use Prim.Native.Nat.{_+_, _-_, _*_, _/_, _≤_};
+ghost use Prim.Native.Nat.{_+_, _-_, _*_, _/_, _≤_, _<_};
 ghost use lib.ListN.{length};
 ghost use Rattle.tables.specs.Chart.{Charted, placeOf};
 
@@ -404,7 +405,7 @@ pub struct Place {
 }
 
 // The place of a signal by a chart whose first row ends with the signal `first`, and which has the signal's row.
-pub fn place_of(chart: &[u16], first: u16, number: u16) -> Place
+fn place_of(chart: &[u16], first: u16, number: u16) -> Place
     requires { ⌜ Charted first (now chart) × ((first ≤ number) × ((number - first) / 8 * 8 + 8 ≤ length (now chart))) ⌝ }
     ensures { λ r. ⌜ r ≡ placeOf first number ⌝ }
 {
@@ -421,4 +422,20 @@ pub fn place_of(chart: &[u16], first: u16, number: u16) -> Place
         column += 1;
     }
     Place { port, bit: 0 }
+}
+
+// The place of an input or output signal.
+pub fn signal_place(signal: Signal) -> Place
+    requires { ⌜ signal .0 < 256 ⌝ }
+    ensures { λ r. ⌜ r ≡ placeOf 0 (signal .0) ⌝ }
+{
+    place_of(&SIGNALS, 0, signal.0)
+}
+
+// The place of a memory bit.
+pub fn memory_place(signal: Signal) -> Place
+    requires { ⌜ (256 ≤ signal .0) × (signal .0 < 384) ⌝ }
+    ensures { λ r. ⌜ r ≡ placeOf 256 (signal .0) ⌝ }
+{
+    place_of(&MEMORY_BITS, 256, signal.0)
 }

@@ -1,12 +1,17 @@
-// The ports of one arm, whole and by signal. Inputs, outputs and memory share all of it.
+// The ports of one arm, whole and by signal. Inputs, outputs and memory share it; inputs are only read here.
 use crate::chart::Place;
+use commands::request::Port;
+use harl::reply::Data;
+use text::hundredths::size_of;
 ghost use mathlib.Core.Path.{_≡_};
 ghost use Prim.Native.Nat.{_<_};
 ghost use lib.ListN.{length, getD, set};
+ghost use lib.IntN.{natAbs, pos};
+ghost use Rattle.harl.specs.declared.reply.Data.the-variants as held;
 ghost use Rattle.tables.specs.Bits.{bit, withBit};
 
 // Bit k of a byte.
-pub fn bit_of(b: u8, k: u8) -> u8
+fn bit_of(b: u8, k: u8) -> u8
     requires { ⌜ k < 8 ⌝ }
     ensures { λ r. ⌜ r ≡ bit b k ⌝ }
 {
@@ -14,7 +19,7 @@ pub fn bit_of(b: u8, k: u8) -> u8
 }
 
 // A byte with v for its bit k.
-pub fn with_bit(b: u8, k: u8, v: u8) -> u8
+fn with_bit(b: u8, k: u8, v: u8) -> u8
     requires { ⌜ (k < 8) × (v < 2) ⌝ }
     ensures { λ r. ⌜ r ≡ withBit b k v ⌝ }
 {
@@ -22,17 +27,41 @@ pub fn with_bit(b: u8, k: u8, v: u8) -> u8
     b - (b >> k) % 2 * w + v * w
 }
 
-// The signal at a place.
-pub fn signal_at(ports: &[u8], place: Place) -> u8
-    requires { ⌜ (place .port < length (now ports)) × (place .bit < 8) ⌝ }
-    ensures { λ r. ⌜ r ≡ bit (getD (now (ports .entry)) (place .port) 0) (place .bit) ⌝ }
+// The value of a byte.
+fn from_byte(v: u8) -> i32
+    ensures { λ r. ⌜ r ≡ pos v ⌝ }
 {
-    let port = place.port;
-    bit_of(ports[port], place.bit)
+    v as i32
 }
 
-// Replaces a whole port. Every write to a port goes through here.
-pub fn store_port(ports: &mut [u8], port: usize, v: u8)
+// The size of a value that a byte holds: the sign is left off.
+fn as_byte(v: i32) -> u8
+    requires { ⌜ natAbs v < 256 ⌝ }
+    ensures { λ r. ⌜ r ≡ natAbs v ⌝ }
+{
+    size_of(v) as u8
+}
+
+// The signal at a place.
+pub fn load_signal(ports: &[u8], place: Place) -> Data
+    requires { ⌜ (place .port < length (now ports)) × (place .bit < 8) ⌝ }
+    ensures { λ r. ⌜ r ≡ held.Signal (pos (bit (getD (now (ports .entry)) (place .port) 0) (place .bit))) ⌝ }
+{
+    let port = place.port;
+    Data::Signal(from_byte(bit_of(ports[port], place.bit)))
+}
+
+// A whole port.
+pub fn load_port(ports: &[u8], port: Port) -> Data
+    requires { ⌜ port .0 < length (now ports) ⌝ }
+    ensures { λ r. ⌜ r ≡ held.Port (pos (getD (now (ports .entry)) (port .0) 0)) ⌝ }
+{
+    let p = port.0 as usize;
+    Data::Port(from_byte(ports[p]))
+}
+
+// Puts a byte into a port. Every SN that changes a port goes through here.
+fn set_port(ports: &mut [u8], port: usize, v: u8)
     requires { ⌜ port < length (now ports) ⌝ }
     ensures { λ _. ⌜ now (ports .exit) ≡ set (now (ports .entry)) port v ⌝ }
 {
@@ -40,11 +69,20 @@ pub fn store_port(ports: &mut [u8], port: usize, v: u8)
 }
 
 // Replaces the signal at a place.
-pub fn store_signal(ports: &mut [u8], place: Place, v: u8)
-    requires { ⌜ (place .port < length (now ports)) × ((place .bit < 8) × (v < 2)) ⌝ }
-    ensures { λ _. ⌜ now (ports .exit) ≡ set (now (ports .entry)) (place .port) (withBit (getD (now (ports .entry)) (place .port) 0) (place .bit) v) ⌝ }
+pub fn store_signal(ports: &mut [u8], place: Place, v: i32)
+    requires { ⌜ (place .port < length (now ports)) × ((place .bit < 8) × (natAbs v < 2)) ⌝ }
+    ensures { λ _. ⌜ now (ports .exit) ≡ set (now (ports .entry)) (place .port) (withBit (getD (now (ports .entry)) (place .port) 0) (place .bit) (natAbs v)) ⌝ }
 {
     let port = place.port;
-    let b = with_bit(ports[port], place.bit, v);
-    store_port(ports, port, b);
+    let b = with_bit(ports[port], place.bit, as_byte(v));
+    set_port(ports, port, b);
+}
+
+// Replaces a whole port.
+pub fn store_port(ports: &mut [u8], port: Port, v: i32)
+    requires { ⌜ (port .0 < length (now ports)) × (natAbs v < 256) ⌝ }
+    ensures { λ _. ⌜ now (ports .exit) ≡ set (now (ports .entry)) (port .0) (natAbs v) ⌝ }
+{
+    let p = port.0 as usize;
+    set_port(ports, p, as_byte(v));
 }

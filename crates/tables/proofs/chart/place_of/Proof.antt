@@ -9,7 +9,9 @@ use Rattle.tables.proofs.chart.place_of.Statement.{statement}
 use Rattle.tables.proofs.chart.place_of.Tie as tie
 
 -- what stands at a column of a whole row
-at-column : (chart : List ℕ) (first p column : ℕ) → Charted first chart → p * 8 + 8 ≤ length chart → column < 8 → getD chart (p * 8 + column) 0 ≡ first + p * 8 + (7 - column)
+at-column :
+    (chart : List ℕ) (first p column : ℕ) → Charted first chart → p * 8 + 8 ≤ length chart → column < 8 →
+    getD chart (p * 8 + column) 0 ≡ first + p * 8 + (7 - column)
 at-column chart first p column h whole l =
     let e : 7 - (7 - column) ≡ column = omega arith in
     rw e at (h p (7 - column) (omega arith) whole)

@@ -1,3 +1,5 @@
+use native.Mathlib.Omega.{arith}
+use mir.Facts.{toZ-ofZ}
 use borrow.Author.Needs.{needs}
 use Rattle.tables.proofs.ports.store_signal.Statement.{statement}
 use Rattle.tables.proofs.ports.store_signal.Tie as tie
@@ -5,19 +7,32 @@ use Rattle.tables.proofs.ports.store_signal.Tie as tie
 slice-read-with-bit : tie.Need-slice-read-with-bit
 slice-read-with-bit c = search needs
 
-with-bit-requires : tie.Need-with-bit-requires
-with-bit-requires c κs = search needs
+as-byte-requires : tie.Need-as-byte-requires
+as-byte-requires c κs = rw (toZ-ofZ (c .before .before .fits .v)) (omega arith)
 
-store-port-requires : tie.Need-store-port-requires
-store-port-requires c κs = search needs
+with-bit-requires : tie.Need-with-bit-requires
+with-bit-requires c κs = rw (c .as-byte .ensures, toZ-ofZ (c .before .before .before .fits .v)) (search needs)
+
+set-port-requires : tie.Need-set-port-requires
+set-port-requires c κs = search needs
 
 same-length : tie.Need-same-length
 same-length c = search needs
 
 returns : tie.Need-returns
-returns c = let call = c .before .before in rw (call .store-port .ensures, call .before .before .with-bit .ensures)
+returns c =
+    let call = c .before .before in
+    let made = call .before .before in
+    let byte = made .before in
+    rw (call .set-port .ensures, made .with-bit .ensures, byte .as-byte .ensures, toZ-ofZ (byte .before .before .before .fits .v))
 
 pub store-signal-spec : {M : Type 1} → statement M
 store-signal-spec =
     tie.close
-    (tie.spec slice-read-with-bit with-bit-requires store-port-requires same-length returns)
+    (tie.spec
+    slice-read-with-bit
+    as-byte-requires
+    with-bit-requires
+    set-port-requires
+    same-length
+    returns)

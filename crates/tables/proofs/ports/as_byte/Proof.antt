@@ -3,8 +3,8 @@ use native.Mathlib.Omega.{arith}
 use lib.IntN.{natAbs}
 use mir.Facts.{toZ-ofZ}
 use borrow.Author.Needs.{needs}
-use Rattle.tables.proofs.perform.as_word.Statement.{statement}
-use Rattle.tables.proofs.perform.as_word.Tie as tie
+use Rattle.tables.proofs.ports.as_byte.Statement.{statement}
+use Rattle.tables.proofs.ports.as_byte.Tie as tie
 
 sized : (c : tie.After-size-of) → c .size-of .result ≡ natAbs (c .before .args .v)
 sized c = c .size-of .ensures ∙ ap natAbs (toZ-ofZ (c .before .fits .v))
@@ -18,5 +18,5 @@ cast-result c = record { fits = omega (arith, sized c) }
 returns : tie.Need-returns
 returns c = sized c
 
-pub as-word-spec : {M : Type 1} → statement M
-as-word-spec = tie.close (tie.spec size-of-requires cast-result returns)
+pub as-byte-spec : {M : Type 1} → statement M
+as-byte-spec = tie.close (tie.spec size-of-requires cast-result returns)

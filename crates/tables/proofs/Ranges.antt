@@ -1,0 +1,88 @@
+-- The bounds that the number and the data of a request keep where they are in range.
+use Prim.Native.Nat.{ℕ, _≤_, _<_}
+use mathlib.Core.Path.{_≡_}
+use mathlib.Core.Bool.{true}
+use native.Mathlib.Omega.{arith}
+use lib.IntN.{ℤ, pos, negsuc, natAbs}
+use mir.Facts.{toZ-ofZ}
+use mir.Syntax.{w32}
+use mir.Val.{toZ, ofZ}
+use Rattle.commands.specs.declared.command.Kind.{Kind}
+use Rattle.commands.specs.declared.command.Kind.the-variants as kind
+use Rattle.commands.specs.declared.request.Load.{Load}
+use Rattle.commands.specs.declared.request.Load.the-variants as load
+use Rattle.commands.specs.declared.request.Store.{Store}
+use Rattle.commands.specs.declared.request.Store.the-variants as store
+use Rattle.commands.specs.Request.{one}
+use Rattle.harl.specs.Data.{limitsOf, allInRange}
+use Rattle.harl.proofs.Ranges.{passed, in-size, all-x}
+use Rattle.tables.specs.Tables.{LoadInRange, StoreInRange}
+
+-- of an LN
+abbrev pub LoadBound : Load → Type 0
+LoadBound (load.Timer n) = n < 16
+LoadBound (load.Register n) = n < 64
+LoadBound (load.Row n) = n < 100
+LoadBound (load.Input g) = g .0 < 256
+LoadBound (load.InputPort p) = p .0 < 32
+LoadBound (load.Output g) = g .0 < 256
+LoadBound (load.OutputPort p) = p .0 < 32
+LoadBound (load.MemoryBit g) = (256 ≤ g .0) × (g .0 < 384)
+LoadBound (load.MemoryPort p) = p .0 < 16
+
+load-bound : (l : Load) → LoadInRange l → LoadBound l
+load-bound (load.Timer n) h = omega (arith, passed _ _ _ h .high)
+load-bound (load.Register n) h = omega (arith, passed _ _ _ h .high)
+load-bound (load.Row n) h = omega (arith, passed _ _ _ h .high)
+load-bound (load.Input g) h = omega (arith, passed _ _ _ h .high)
+load-bound (load.InputPort p) h = omega (arith, passed _ _ _ h .high)
+load-bound (load.Output g) h = omega (arith, passed _ _ _ h .high)
+load-bound (load.OutputPort p) h = omega (arith, passed _ _ _ h .high)
+load-bound (load.MemoryBit g) h = let p = passed _ _ _ h in (p .low, omega (arith, p .high))
+load-bound (load.MemoryPort p) h = omega (arith, passed _ _ _ h .high)
+
+-- a value whose size is below a limit, and which 32 bits keep
+pub record Small (limit : ℕ) (v : ℤ) : Type 0 where
+  pub size : natAbs v < limit
+  pub same : toZ w32 (ofZ w32 v) ≡ v
+
+in-word : (v : ℤ) → natAbs v < 65536 → toZ w32 (ofZ w32 v) ≡ v
+in-word (pos n) h = toZ-ofZ {w = w32} {z = pos n} (record { sfits = omega arith })
+in-word (negsuc n) h = toZ-ofZ {w = w32} {z = negsuc n} (record { sfits = omega arith })
+
+small : (k : Kind) (limit : ℕ) (v : ℤ) → allInRange k (one v) ≡ true → natAbs (limitsOf k .high) < limit → limit ≤ 65536 → Small limit v
+small k limit v h l w =
+    let s : natAbs v ≤ natAbs (limitsOf k .high) = in-size k v (all-x k (one v) h) in
+    record { size = omega arith; same = in-word v (omega arith) }
+
+-- of an SN
+abbrev pub StoreBound : Store → Type 0
+StoreBound (store.Timer n v) = (n < 16) × Small 65536 v
+StoreBound (store.Register n v) = (n < 64) × Small 65536 v
+StoreBound (store.Row n r) = n < 100
+StoreBound (store.Output g v) = (g .0 < 256) × Small 2 v
+StoreBound (store.OutputPort p v) = (p .0 < 32) × Small 256 v
+StoreBound (store.MemoryBit g v) = ((256 ≤ g .0) × (g .0 < 384)) × Small 2 v
+StoreBound (store.MemoryPort p v) = (p .0 < 16) × Small 256 v
+
+store-bound : (q : Store) → StoreInRange q → StoreBound q
+store-bound (store.Timer n v) h =
+    let p = passed _ _ _ h in (omega (arith, p .high), small kind.Timer 65536 v (p .values) (omega arith) (omega arith))
+store-bound (store.Register n v) h =
+    let p = passed _ _ _ h in (omega (arith, p .high), small kind.Register 65536 v (p .values) (omega arith) (omega arith))
+store-bound (store.Row n r) h = omega (arith, passed _ _ _ h .high)
+store-bound (store.Output g v) h =
+    let p = passed _ _ _ h in (omega (arith, p .high), small kind.Signal 2 v (p .values) (omega arith) (omega arith))
+store-bound (store.OutputPort n v) h =
+    let p = passed _ _ _ h in (omega (arith, p .high), small kind.Port 256 v (p .values) (omega arith) (omega arith))
+store-bound (store.MemoryBit g v) h =
+    let p = passed _ _ _ h in ((p .low, omega (arith, p .high)), small kind.Signal 2 v (p .values) (omega arith) (omega arith))
+store-bound (store.MemoryPort n v) h =
+    let p = passed _ _ _ h in (omega (arith, p .high), small kind.Port 256 v (p .values) (omega arith) (omega arith))
+
+-- of a request that was matched
+pub load-within : {l m : Load} → l ≡ m → LoadInRange l → LoadBound m
+load-within {l} {m} e h = load-bound m (rw e at h)
+
+pub store-within : {q r : Store} → q ≡ r → StoreInRange q → StoreBound r
+store-within {q} {r} e h = store-bound r (rw e at h)
