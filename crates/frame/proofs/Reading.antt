@@ -11,7 +11,7 @@ use lib.Dec.{T, eqb, eqb→eq}
 use lib.ListN.{length, length-append}
 use lib.Seq.{getD-at, getD-append-add, take-at, take-append-seam, take-append-add, drop-append-add}
 use Rattle.text.specs.Scan.{until}
-use Rattle.text.specs.Whole.{readWhole, digitsOnto, shortest, leading, place}
+use Rattle.text.specs.Whole.{readWhole, digitsOnto, shortest, leading, digit}
 use Rattle.frame.specs.Checksum.{lrcOf}
 use Rattle.frame.specs.Frame.{isStray, stray, stationOf, readInner, readFrame, opening, closing, frameOf, Printable}
 use Rattle.frame.specs.Back.{FramesReadBack}
@@ -43,7 +43,7 @@ all zero = true
 all (suc n) = sound n && all n
 
 computed : T (all 100)
-unfolding all sound shortest leading place stationOf readWhole digitsOnto
+unfolding all sound shortest leading digit stationOf readWhole digitsOnto
 computed = tt
 
 both : (a b : Bool) → T (a && b) → T a × T b

@@ -7,7 +7,7 @@ use native.Mathlib.Omega.{arith}
 use lib.Dec.{eqb}
 use lib.ListN.{length, length-append}
 use Rattle.text.specs.Put.{Put}
-use Rattle.text.specs.Whole.{place, shortest}
+use Rattle.text.specs.Whole.{digit, shortest}
 use Rattle.text.proofs.Digits.{shortest-short}
 use Rattle.frame.specs.Frame.{frameOf}
 use Rattle.frame.proofs.Writing.{frame-length}
@@ -60,7 +60,7 @@ body-length p =
     (omega (arith, body-parts p), omega (arith, body-parts p, name-length (p .command), shortest-short (p .number)))
 
 pub status-length : (t : Bool) (n : ℕ) → (1 ≤ length (statusText t n)) × (length (statusText t n) ≤ 3)
-unfolding statusText place
+unfolding statusText digit
 status-length true n = (omega arith, omega arith)
 status-length false n = (omega arith, omega arith)
 

@@ -8,7 +8,7 @@ use borrow.Author.Tests.{ne-eqb, eqb-true, ltb-false, eqb-false, eq-eqb}
 use lib.Dec.{ltb, eqb}
 use lib.ListN.{getD}
 use Rattle.text.specs.Scan.{until, before}
-use Rattle.text.specs.Whole.{readWhole, place}
+use Rattle.text.specs.Whole.{readWhole, digit}
 use Rattle.text.proofs.Laws.{Skips, skips-cons, not-first}
 use Rattle.text.proofs.Digits.{read-two, two-skips}
 use Rattle.frame.specs.Frame.{isStray}
@@ -35,7 +35,7 @@ use Rattle.harl.proofs.Requests.{asked-ok}
 -- ---- a status
 
 status-back : (n : ℕ) → n ≤ 99 → readStatus (twoDigits n) ≡ carried.Outcome (outcome.Status n)
-unfolding readStatus place
+unfolding readStatus digit
 status-back n h = ap asStatus (read-two n (omega arith))
 
 -- ---- data

@@ -5,7 +5,7 @@ use mathlib.Core.List.{List, [], _∷_, _++_}
 use lib.Dec.{ltb, eqb}
 use lib.IntN.{ℤ}
 use lib.ListN.{length, getD, drop}
-use Rattle.text.specs.Whole.{readWhole, place}
+use Rattle.text.specs.Whole.{readWhole, digit}
 use Rattle.text.specs.declared.whole.Whole.{Whole}
 use Rattle.text.specs.declared.whole.Whole.the-variants as whole
 use Rattle.frame.specs.Fields.{fields}
@@ -64,7 +64,7 @@ judgeOutcome rule (outcome.Status n) = cond (ltb 99 n) 12 0
 -- ---- writing
 
 abbrev pub twoDigits : ℕ → List ℕ
-twoDigits n = place 10 n ++ place 1 n
+twoDigits n = digit 10 n ++ digit 1 n
 
 -- "E" and the two digits for an LN, the two digits alone for an SN
 unfoldable pub statusText : Bool → ℕ → List ℕ

@@ -6,7 +6,7 @@ use frame::fields::end_of;
 use text::hundredths::Hundredths;
 use text::hundredths::put_hundredths;
 use text::hundredths::read_hundredths;
-use text::hundredths::size_of;
+use text::hundredths::unsigned_abs;
 use text::put::put_byte;
 use text::whole::Whole;
 use text::whole::put_padded;
@@ -179,7 +179,7 @@ pub fn read_data(kind: Kind, s: &[u8]) -> Values
 fn digits_of(row: Row) -> u16
     ensures { λ r. ⌜ r ≡ digitsOf row ⌝ }
 {
-    (size_of(row.x) % 10000) as u16
+    (unsigned_abs(row.x) % 10000) as u16
 }
 
 fn put_row(area: &mut [u8], at: usize, row: Row) -> usize

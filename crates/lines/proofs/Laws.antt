@@ -10,7 +10,7 @@ use lib.ListN.{length, getD, drop, length-append}
 use lib.Seq.{sets, length-sets}
 use lib.Dec.{ltb}
 use Rattle.text.proofs.Laws.{here, over}
-use Rattle.text.proofs.Digits.{place-length}
+use Rattle.text.proofs.Digits.{digit-length}
 use Rattle.lines.specs.declared.reader.Line.the-variants.{Slice, NoCall}
 use Rattle.lines.specs.Lines.{value, allCapitals, isCall, sliceOf, lineOf, heldAfter, capital, hexText, replyText, answerLine}
 
@@ -125,7 +125,7 @@ reply-length (b ∷ s) = omega (arith, hex-length (b ∷ s))
 
 pub answer-length : (n : ℕ) (s : List ℕ) → length (answerLine n s) ≡ length (replyText s) + 3
 unfolding answerLine
-answer-length n s = simp (length-append, place-length) (omega arith)
+answer-length n s = simp (length-append, digit-length) (omega arith)
 
 -- a number, a space, two digits for each byte, LF
 pub answer-short : (n : ℕ) (s : List ℕ) → length (answerLine n s) ≤ 2 * length s + 4

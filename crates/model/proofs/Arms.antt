@@ -4,7 +4,7 @@ use Prim.Native.Nat.{ℕ, _<_}
 use mathlib.Core.Path.{_≡_, refl, sym, ap}
 use native.Mathlib.Nat.{sub-zero}
 use lib.ListN.{getD}
-use Rattle.text.specs.Whole.{place}
+use Rattle.text.specs.Whole.{digit}
 use Rattle.frame.specs.Frame.{readFrame}
 use Rattle.commands.specs.declared.request.Load.{Load}
 use Rattle.commands.specs.declared.request.Load.the-variants as load
@@ -58,7 +58,7 @@ module _ (b : Box) (k : ℕ) (h : Shaped (b .tables)) (l : k < 4) where
   stored-same (store.MemoryPort p v) = search row-same
 
   body-same : (own : ℕ) (j : Judged) → Agrees b k (decideBody k own j) (answerBody own (armOf k b) j)
-  unfolding perform respond outcomeText statusText place
+  unfolding perform respond outcomeText statusText digit
   body-same own (judged.Accepted (request.Load q)) = record { arm = refl; answer = rw (loaded-same q) }
   body-same own (judged.Accepted (request.Store q)) = record { arm = stored-same q; answer = refl }
   body-same own (judged.Refused n q) = record { arm = refl; answer = refl }

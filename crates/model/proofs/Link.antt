@@ -4,7 +4,7 @@ use mathlib.Core.Path.{_≡_, refl, ap}
 use mathlib.Core.Bool.{true}
 use borrow.Author.Tests.{le-leb, eq-eqb}
 use lib.ListN.{getD}
-use Rattle.text.specs.Whole.{place}
+use Rattle.text.specs.Whole.{digit}
 use Rattle.frame.specs.Frame.{frameOf}
 use Rattle.commands.specs.declared.command.Kind.the-variants as kind
 use Rattle.commands.specs.declared.request.Load.{Load}
@@ -41,7 +41,7 @@ store-rule (store.MemoryPort p v) = refl
 
 answered-as : (s : ℕ) (a : Arm) (r : Request)
     → answerRequest s a r ≡ record { arm = armAfter a r; answer = record { number = 0; reply = frameOf s (outcomeText (ruleFor r .store) (outcomeOf a r)) } }
-unfolding outcomeText statusText place
+unfolding outcomeText statusText digit
 answered-as s a (request.Load l) = refl
 answered-as s a (request.Store q) = rw (store-rule q)
 

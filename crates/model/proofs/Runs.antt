@@ -1,7 +1,7 @@
 -- The runs of specs/Examples.antt, by computation.
 use mathlib.Core.Path.{refl}
 use Rattle.text.specs.Scan.{until}
-use Rattle.text.specs.Whole.{digitsOnto, readWhole, place, leading, shortest, padded}
+use Rattle.text.specs.Whole.{digitsOnto, readWhole, digit, leading, shortest, padded}
 use Rattle.text.specs.Hundredths.{decimals, magnitude, readHundredths, magnitudeText, hundredthsText}
 use Rattle.frame.specs.Checksum.{xorOnto, lrcOf}
 use Rattle.frame.specs.Fields.{first, more, fields}
@@ -15,7 +15,7 @@ use Rattle.model.specs.Box.{lacks, distinct, small, setupNumber, setup, 
 use Rattle.model.specs.Examples.{answered, Runs}
 
 pub runs-hold : Runs
-unfolding until digitsOnto readWhole place leading shortest padded
+unfolding until digitsOnto readWhole digit leading shortest padded
     decimals magnitude readHundredths magnitudeText hundredthsText
     xorOnto lrcOf first more fields stationOf readInner readFrame opening closing frameOf
     same nameOf among commandOf inRange allInRange judge rowText readShape decided readBody statusText outcomeText

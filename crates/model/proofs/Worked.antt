@@ -1,7 +1,7 @@
 -- The statement of specs/Worked.antt, by computation.
 use mathlib.Core.Path.{refl}
 use Rattle.text.specs.Scan.{until}
-use Rattle.text.specs.Whole.{readWhole, digitsOnto, place, leading, shortest, padded}
+use Rattle.text.specs.Whole.{readWhole, digitsOnto, digit, leading, shortest, padded}
 use Rattle.text.specs.Hundredths.{decimals, magnitude, readHundredths, magnitudeText, hundredthsText}
 use Rattle.frame.specs.Checksum.{xorOnto, lrcOf}
 use Rattle.frame.specs.Frame.{stationOf, readInner, readFrame, opening, closing, frameOf}
@@ -17,7 +17,7 @@ use Rattle.model.specs.Box as box
 use Rattle.model.specs.Worked.{answer, worked, Worked}
 
 pub worked-out : Worked
-unfolding answer worked until readWhole digitsOnto place leading shortest padded decimals magnitude
+unfolding answer worked until readWhole digitsOnto digit leading shortest padded decimals magnitude
     readHundredths magnitudeText hundredthsText xorOnto lrcOf opening closing frameOf first more fields same
     nameOf among commandOf inRange allInRange judge readShape decided readBody bodyText judgeOutcome statusText
     outcomeText judgeAsked writeRequest judgeReply writeReply stationOf readInner readFrame loaded stored zeros

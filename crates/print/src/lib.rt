@@ -1,6 +1,6 @@
 // What the example programs write on standard output: labels, texts, numbers and bytes.
 use libc::STDOUT_FILENO;
-use text::hundredths::size_of;
+use text::hundredths::unsigned_abs;
 ghost use Prim.Native.Nat.{_<_};
 
 pub fn put(s: &[u8]) {
@@ -35,7 +35,7 @@ pub fn put_signed(v: i32) {
     if v < 0 {
         put(b"-");
     }
-    put_whole(size_of(v) as u64);
+    put_whole(unsigned_abs(v) as u64);
 }
 
 fn hexadecimal(d: u8) -> u8

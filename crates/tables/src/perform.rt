@@ -13,7 +13,7 @@ use commands::request::Row;
 use commands::request::Store;
 use harl::reply::Data;
 use harl::reply::Outcome;
-use text::hundredths::size_of;
+use text::hundredths::unsigned_abs;
 ghost use mathlib.Core.Path.{_≡_};
 ghost use Prim.Native.Nat.{_<_};
 ghost use lib.ListN.{length, getD, set};
@@ -75,7 +75,7 @@ fn store_word(words: &mut [u16], n: u16, v: i32)
     requires { ⌜ (n < length (now words)) × (natAbs v < 65536) ⌝ }
     ensures { λ _. ⌜ now (words .exit) ≡ set (now (words .entry)) n (natAbs v) ⌝ }
 {
-    words[n as usize] = size_of(v) as u16;
+    words[n as usize] = unsigned_abs(v) as u16;
 }
 
 // Replaces X and Y of a row.

@@ -2,7 +2,7 @@
 use crate::chart::Place;
 use commands::request::Port;
 use harl::reply::Data;
-use text::hundredths::size_of;
+use text::hundredths::unsigned_abs;
 ghost use mathlib.Core.Path.{_≡_};
 ghost use Prim.Native.Nat.{_<_};
 ghost use lib.ListN.{length, getD, set};
@@ -39,7 +39,7 @@ fn as_byte(v: i32) -> u8
     requires { ⌜ natAbs v < 256 ⌝ }
     ensures { λ r. ⌜ r ≡ natAbs v ⌝ }
 {
-    size_of(v) as u8
+    unsigned_abs(v) as u8
 }
 
 // The signal at a place.

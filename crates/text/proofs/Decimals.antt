@@ -16,9 +16,9 @@ use Rattle.text.specs.declared.whole.Whole.the-variants.{Value, Malforme
 use Rattle.text.specs.declared.hundredths.Magnitude.the-variants.{Size}
 use Rattle.text.specs.declared.hundredths.Hundredths.the-variants as hundredths
 use Rattle.text.specs.Scan.{before}
-use Rattle.text.specs.Whole.{isDigit, digitsOnto, readWhole, place, shortest}
+use Rattle.text.specs.Whole.{isDigit, digitsOnto, readWhole, digit, shortest}
 use Rattle.text.specs.Hundredths.{decimals, magnitude, joined, times, signed, Small, readHundredths, magnitudeText, hundredthsText}
-use Rattle.text.proofs.Digits.{read-shortest, read-two, place-length, shortest-short, shortest-some, shortest-skips, two-skips}
+use Rattle.text.proofs.Digits.{read-shortest, read-two, digit-length, shortest-short, shortest-some, shortest-skips, two-skips}
 use Rattle.text.proofs.Laws.{Skips, skips-cons, skips-append, skips-stop, not-first}
 
 -- ---- bounds
@@ -108,7 +108,7 @@ magnitude-small s = joined-small (readWhole (take (before 46 s) s)) _ (whole-sma
 
 pub magnitude-length : (m : ℕ) → length (magnitudeText m) ≡ length (shortest (m / 100 % 10000)) + 3
 unfolding magnitudeText
-magnitude-length m = simp (length-append, place-length) (omega arith)
+magnitude-length m = simp (length-append, digit-length) (omega arith)
 
 pub text-neg : (z : ℤ) → ltZ z (pos 0) ≡ true → hundredthsText z ≡ 45 ∷ magnitudeText (natAbs z)
 unfolding hundredthsText
@@ -137,7 +137,7 @@ module _ (test : ℕ → Bool) (none : (d : ℕ) → d < 10 → test (d + 48) �
   unfolding magnitudeText
   magnitude-skips m =
       skips-append test (shortest (m / 100 % 10000)) _ (shortest-skips test none (m / 100 % 10000))
-      (skips-cons test 46 (place 10 (m % 100) ++ place 1 (m % 100)) point (two-skips test none (m % 100)))
+      (skips-cons test 46 (digit 10 (m % 100) ++ digit 1 (m % 100)) point (two-skips test none (m % 100)))
 
   pub hundredths-skips : (z : ℤ) → Skips test (hundredthsText z)
   unfolding hundredthsText
@@ -153,8 +153,8 @@ cut us ds e =
     let n : length us ≡ length (us ++ (46 ∷ ds)) → ⊥ = λ q. omega (arith, q, length-append us (46 ∷ ds)) in
     rw (e, take-append-seam us (46 ∷ ds), ne-eqb _ _ n, drop-append-add us (46 ∷ ds) 1)
 
-two-decimals : (v : ℕ) → v < 100 → decimals (place 10 v ++ place 1 v) ≡ Value v
-unfolding decimals place
+two-decimals : (v : ℕ) → v < 100 → decimals (digit 10 v ++ digit 1 v) ≡ Value v
+unfolding decimals digit
 two-decimals v h = rw (read-two v h) (ap Value (omega arith))
 
 digit-not : (a : ℕ) → a < 48 → (d : ℕ) → d < 10 → eqb (d + 48) a ≡ false
@@ -172,7 +172,7 @@ read-magnitude m h =
 unsigned : (m : ℕ) → getD (magnitudeText m) 0 0 ≡ 45 → ⊥
 unfolding magnitudeText
 unsigned m =
-    let ds : List ℕ = 46 ∷ (place 10 (m % 100) ++ place 1 (m % 100)) in
+    let ds : List ℕ = 46 ∷ (digit 10 (m % 100) ++ digit 1 (m % 100)) in
     not-first 45 (shortest (m / 100 % 10000) ++ ds) (omega (arith, shortest-skips (λ b. eqb b 45) (digit-not 45 (omega arith)) (m / 100 % 10000) ds, shortest-some (m / 100 % 10000)))
 
 pub read-hundredths : (z : ℤ) → natAbs z < 1000000 → readHundredths (hundredthsText z) ≡ hundredths.Value z

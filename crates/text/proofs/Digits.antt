@@ -11,19 +11,19 @@ use lib.ListN.{length, length-append}
 use Rattle.text.specs.declared.whole.Whole.the-variants.{Value}
 use Rattle.text.specs.Scan.{until}
 use Rattle.text.proofs.Laws.{Skips, skips-append}
-use Rattle.text.specs.Whole.{isDigit, digitsOnto, readWhole, place, leading, shortest, padded}
+use Rattle.text.specs.Whole.{isDigit, digitsOnto, readWhole, digit, leading, shortest, padded}
 
 -- ---- lengths
 
-pub place-length : (u v : ℕ) → length (place u v) ≡ 1
-unfolding place
-place-length u v = refl
+pub digit-length : (u v : ℕ) → length (digit u v) ≡ 1
+unfolding digit
+digit-length u v = refl
 
 pub leading-none : (u v : ℕ) → v < u → leading u v ≡ []
 unfolding leading
 leading-none u v h = rw (lt-ltb v u h)
 
-pub leading-some : (u v : ℕ) → u ≤ v → leading u v ≡ place u v
+pub leading-some : (u v : ℕ) → u ≤ v → leading u v ≡ digit u v
 unfolding leading
 leading-some u v h = rw (le-ltb v u h)
 
@@ -32,11 +32,11 @@ leading-length u v = go (ltb v u) refl
   where
     go : (t : Bool) → ltb v u ≡ t → length (leading u v) ≤ 1
     go true e = rw (leading-none u v (ltb-true v u e)) (omega arith)
-    go false e = rw (leading-some u v (ltb-false v u e), place-length u v) (omega arith)
+    go false e = rw (leading-some u v (ltb-false v u e), digit-length u v) (omega arith)
 
 pub shortest-length : (v : ℕ) → length (shortest v) ≡ length (leading 1000 v) + (length (leading 100 v) + (length (leading 10 v) + 1))
 unfolding shortest
-shortest-length v = simp (length-append, place-length)
+shortest-length v = simp (length-append, digit-length)
 
 pub shortest-some : (v : ℕ) → 1 ≤ length (shortest v)
 shortest-some v = omega (arith, shortest-length v)
@@ -46,7 +46,7 @@ shortest-short v = omega (arith, shortest-length v, leading-length 1000 v, leadi
 
 pub padded-length : (v : ℕ) → length (padded v) ≡ 4
 unfolding padded
-padded-length v = simp (length-append, place-length)
+padded-length v = simp (length-append, digit-length)
 
 -- ---- reading what was written
 
@@ -59,9 +59,9 @@ unfolding digitsOnto
 one-more n d bs h = simp (digit-ok d h, add-sub-cancel)
 
 -- a digit takes v / u / 10 to v / u
-place-read : (u v n : ℕ) (bs : List ℕ) → n ≡ v / u / 10 → digitsOnto n (place u v ++ bs) ≡ digitsOnto (v / u) bs
-unfolding place
-place-read u v n bs e =
+digit-read : (u v n : ℕ) (bs : List ℕ) → n ≡ v / u / 10 → digitsOnto n (digit u v ++ bs) ≡ digitsOnto (v / u) bs
+unfolding digit
+digit-read u v n bs e =
     one-more n (v / u % 10) bs (omega arith) ∙ ap (λ (m : ℕ). digitsOnto m bs) (whole-part (v / u) e)
   where
     whole-part : (q : ℕ) → n ≡ q / 10 → n * 10 + q % 10 ≡ q
@@ -75,12 +75,12 @@ leading-read u v n bs e = go (ltb v u) refl
     go true q =
         let z : v / u ≡ 0 = div-eq-of-lt (ltb-true v u q) in
         rw (leading-none u v (ltb-true v u q)) (ap (λ (m : ℕ). digitsOnto m bs) (omega arith))
-    go false q = rw (leading-some u v (ltb-false v u q)) (place-read u v n bs e)
+    go false q = rw (leading-some u v (ltb-false v u q)) (digit-read u v n bs e)
 
 -- the last digit, in either form
-last-read : (v n : ℕ) → n ≡ v / 10 → digitsOnto n (place 1 v) ≡ Value v
-unfolding place digitsOnto
-last-read v n e = place-read 1 v n [] (omega arith) ∙ ap Value (omega arith)
+last-read : (v n : ℕ) → n ≡ v / 10 → digitsOnto n (digit 1 v) ≡ Value v
+unfolding digit digitsOnto
+last-read v n e = digit-read 1 v n [] (omega arith) ∙ ap Value (omega arith)
 
 -- 1 to 4 digits are a whole number
 read-is : (s : List ℕ) (v : ℕ) → 1 ≤ length s → length s ≤ 4 → digitsOnto 0 s ≡ Value v → readWhole s ≡ Value v
@@ -97,40 +97,40 @@ pub read-padded : (v : ℕ) → v < 10000 → readWhole (padded v) ≡ Value v
 unfolding padded
 read-padded v h =
     read-is (padded v) v (omega (arith, padded-length v)) (omega (arith, padded-length v))
-    (place-read 1000 v 0 _ (omega arith) ∙ place-read 100 v _ _ (omega arith) ∙ place-read 10 v _ _ (omega arith) ∙ last-read v _ refl)
+    (digit-read 1000 v 0 _ (omega arith) ∙ digit-read 100 v _ _ (omega arith) ∙ digit-read 10 v _ _ (omega arith) ∙ last-read v _ refl)
 
 -- two digits, as after a point
-pub read-two : (v : ℕ) → v < 100 → readWhole (place 10 v ++ place 1 v) ≡ Value v
+pub read-two : (v : ℕ) → v < 100 → readWhole (digit 10 v ++ digit 1 v) ≡ Value v
 read-two v h =
-    let k : length (place 10 v ++ place 1 v) ≡ 2 = simp (length-append, place-length) in
-    read-is (place 10 v ++ place 1 v) v (omega arith) (omega arith) (place-read 10 v 0 (place 1 v) (omega arith) ∙ last-read v _ refl)
+    let k : length (digit 10 v ++ digit 1 v) ≡ 2 = simp (length-append, digit-length) in
+    read-is (digit 10 v ++ digit 1 v) v (omega arith) (omega arith) (digit-read 10 v 0 (digit 1 v) (omega arith) ∙ last-read v _ refl)
 
 -- ---- a search for what is no digit passes over the digits
 
 module _ (test : ℕ → Bool) (none : (d : ℕ) → d < 10 → test (d + 48) ≡ false) where
-  pub place-skips : (u v : ℕ) → Skips test (place u v)
-  unfolding place until
-  place-skips u v bs = rw (none (v / u % 10) (omega arith)) (omega arith)
+  pub digit-skips : (u v : ℕ) → Skips test (digit u v)
+  unfolding digit until
+  digit-skips u v bs = rw (none (v / u % 10) (omega arith)) (omega arith)
 
   pub leading-skips : (u v : ℕ) → Skips test (leading u v)
   leading-skips u v = go (ltb v u) refl
     where
       go : (t : Bool) → ltb v u ≡ t → Skips test (leading u v)
       go true e = rw (leading-none u v (ltb-true v u e)) (λ bs. omega arith)
-      go false e = rw (leading-some u v (ltb-false v u e)) (place-skips u v)
+      go false e = rw (leading-some u v (ltb-false v u e)) (digit-skips u v)
 
   pub shortest-skips : (v : ℕ) → Skips test (shortest v)
   unfolding shortest
   shortest-skips v =
       skips-append test (leading 1000 v) _ (leading-skips 1000 v)
       (skips-append test (leading 100 v) _ (leading-skips 100 v)
-      (skips-append test (leading 10 v) _ (leading-skips 10 v) (place-skips 1 v)))
+      (skips-append test (leading 10 v) _ (leading-skips 10 v) (digit-skips 1 v)))
 
-  pub two-skips : (v : ℕ) → Skips test (place 10 v ++ place 1 v)
-  two-skips v = skips-append test (place 10 v) (place 1 v) (place-skips 10 v) (place-skips 1 v)
+  pub two-skips : (v : ℕ) → Skips test (digit 10 v ++ digit 1 v)
+  two-skips v = skips-append test (digit 10 v) (digit 1 v) (digit-skips 10 v) (digit-skips 1 v)
 
   pub padded-skips : (v : ℕ) → Skips test (padded v)
   unfolding padded
   padded-skips v =
-      skips-append test (place 1000 v) _ (place-skips 1000 v)
-      (skips-append test (place 100 v) _ (place-skips 100 v) (two-skips v))
+      skips-append test (digit 1000 v) _ (digit-skips 1000 v)
+      (skips-append test (digit 100 v) _ (digit-skips 100 v) (two-skips v))

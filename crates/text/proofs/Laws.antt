@@ -1,4 +1,4 @@
--- Laws about lists that every proof above rests on: a list from an index on, a search, and bytes written at a place.
+-- Laws about lists that every proof above rests on: a list from an index on, a search, and bytes written at an index.
 use Prim.Native.Nat.{ℕ, zero, suc, _+_, _-_, _≤_, _<_}
 use mathlib.Core.Path.{_≡_, refl, _∙_}
 use mathlib.Core.Bool.{Bool, true, false, cond}
@@ -70,7 +70,7 @@ unfolding until
 not-first a [] h e = omega arith
 not-first a (b ∷ bs) h e = omega (arith, rw (eq-eqb b a e) at h)
 
--- ---- bytes written at a place
+-- ---- bytes written at an index
 
 pub sets-append : (xs : List ℕ) (at : ℕ) (us vs : List ℕ) → sets xs at (us ++ vs) ≡ sets (sets xs at us) (at + length us) vs
 sets-append xs at [] vs = rw (add-zero at)

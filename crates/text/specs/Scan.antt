@@ -1,4 +1,4 @@
--- The place of the first byte of a given value.
+-- The index of the first byte of a given value.
 use Prim.Native.Nat.{ℕ, zero, suc}
 use mathlib.Core.Bool.{Bool, cond}
 use mathlib.Core.List.{List, [], _∷_}

@@ -21,17 +21,17 @@ unfoldable pub readWhole : List ℕ → Whole
 readWhole s = cond (leb 1 (length s) && leb (length s) 4) (digitsOnto 0 s) Malformed
 
 -- the digit of v that counts units of u
-unfoldable pub place : ℕ → ℕ → List ℕ
-place u v = (v / u % 10 + 48) ∷ []
+unfoldable pub digit : ℕ → ℕ → List ℕ
+digit u v = (v / u % 10 + 48) ∷ []
 
 -- that digit, or nothing where v is below u
 unfoldable pub leading : ℕ → ℕ → List ℕ
-leading u v = cond (ltb v u) [] (place u v)
+leading u v = cond (ltb v u) [] (digit u v)
 
 -- v below 10000, written shortest
 unfoldable pub shortest : ℕ → List ℕ
-shortest v = leading 1000 v ++ (leading 100 v ++ (leading 10 v ++ place 1 v))
+shortest v = leading 1000 v ++ (leading 100 v ++ (leading 10 v ++ digit 1 v))
 
 -- v below 10000, always with 4 digits
 unfoldable pub padded : ℕ → List ℕ
-padded v = place 1000 v ++ (place 100 v ++ (place 10 v ++ place 1 v))
+padded v = digit 1000 v ++ (digit 100 v ++ (digit 10 v ++ digit 1 v))

@@ -3,7 +3,7 @@
 use crate::put::put_byte;
 use crate::scan::find;
 use crate::whole::Whole;
-use crate::whole::put_place;
+use crate::whole::put_digit;
 use crate::whole::put_shortest;
 use crate::whole::read_whole;
 ghost use mathlib.Core.Path.{_≡_};
@@ -93,7 +93,7 @@ pub fn read_hundredths(field: &[u8]) -> Hundredths
 }
 
 // v without its sign.
-pub fn size_of(v: i32) -> u32
+pub fn unsigned_abs(v: i32) -> u32
     ensures { λ r. ⌜ r ≡ natAbs v ⌝ }
 {
     if v < 0 { (-1 - v) as u32 + 1 } else { v as u32 }
@@ -107,8 +107,8 @@ fn put_magnitude(area: &mut [u8], at: usize, m: u32) -> usize
     let cents = (m % 100) as u16;
     let point = put_shortest(area, at, (m / 100 % 10000) as u16);
     let tens = put_byte(area, point, b'.');
-    let ones = put_place(area, tens, 10, cents);
-    put_place(area, ones, 1, cents)
+    let ones = put_digit(area, tens, 10, cents);
+    put_digit(area, ones, 1, cents)
 }
 
 // Writes v hundredths; of a whole part with more than 4 digits, the last 4.
@@ -116,7 +116,7 @@ pub fn put_hundredths(area: &mut [u8], at: usize, v: i32) -> usize
     requires { ⌜ at + length (hundredthsText v) ≤ length (now area) ⌝ }
     ensures { λ r. ⌜ Put (now (area .entry)) at (hundredthsText v) r (now (area .exit)) ⌝ }
 {
-    let m = size_of(v);
+    let m = unsigned_abs(v);
     if v < 0 {
         let digits = put_byte(area, at, b'-');
         return put_magnitude(area, digits, m);

@@ -4,7 +4,7 @@ ghost use mathlib.Core.Path.{_≡_};
 ghost use Prim.Native.Nat.{_≤_, _<_, _+_};
 ghost use lib.ListN.{length};
 ghost use Rattle.text.specs.Put.{Put};
-ghost use Rattle.text.specs.Whole.{readWhole, place, leading, shortest, padded};
+ghost use Rattle.text.specs.Whole.{readWhole, digit, leading, shortest, padded};
 
 // What a text is as a whole number.
 pub enum Whole {
@@ -40,9 +40,9 @@ pub fn read_whole(field: &[u8]) -> Whole
 }
 
 // Writes the digit of v that counts units of `unit`.
-pub fn put_place(area: &mut [u8], at: usize, unit: u16, v: u16) -> usize
+pub fn put_digit(area: &mut [u8], at: usize, unit: u16, v: u16) -> usize
     requires { ⌜ (0 < unit) × (at < length (now area)) ⌝ }
-    ensures { λ r. ⌜ Put (now (area .entry)) at (place unit v) r (now (area .exit)) ⌝ }
+    ensures { λ r. ⌜ Put (now (area .entry)) at (digit unit v) r (now (area .exit)) ⌝ }
 {
     let d = v / unit % 10;
     put_byte(area, at, d as u8 + b'0')
@@ -56,7 +56,7 @@ fn put_leading(area: &mut [u8], at: usize, unit: u16, v: u16) -> usize
     if v < unit {
         return at;
     }
-    put_place(area, at, unit, v)
+    put_digit(area, at, unit, v)
 }
 
 // Writes v with no leading zero; of 10000 or more, the last 4 digits.
@@ -67,7 +67,7 @@ pub fn put_shortest(area: &mut [u8], at: usize, v: u16) -> usize
     let hundreds = put_leading(area, at, 1000, v);
     let tens = put_leading(area, hundreds, 100, v);
     let ones = put_leading(area, tens, 10, v);
-    put_place(area, ones, 1, v)
+    put_digit(area, ones, 1, v)
 }
 
 // Writes v with 4 digits; of 10000 or more, the last 4.
@@ -75,8 +75,8 @@ pub fn put_padded(area: &mut [u8], at: usize, v: u16) -> usize
     requires { ⌜ at + 4 ≤ length (now area) ⌝ }
     ensures { λ r. ⌜ Put (now (area .entry)) at (padded v) r (now (area .exit)) ⌝ }
 {
-    let hundreds = put_place(area, at, 1000, v);
-    let tens = put_place(area, hundreds, 100, v);
-    let ones = put_place(area, tens, 10, v);
-    put_place(area, ones, 1, v)
+    let hundreds = put_digit(area, at, 1000, v);
+    let tens = put_digit(area, hundreds, 100, v);
+    let ones = put_digit(area, tens, 10, v);
+    put_digit(area, ones, 1, v)
 }

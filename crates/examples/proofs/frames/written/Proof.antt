@@ -3,7 +3,7 @@ use native.Mathlib.Omega.{arith}
 use mathlib.Core.Path.{sym}
 use borrow.Author.Needs.{needs}
 use lib.Seq.{length-take-le}
-use Rattle.text.specs.Whole.{shortest, leading, place}
+use Rattle.text.specs.Whole.{shortest, leading, digit}
 use Rattle.frame.specs.Frame.{opening, closing}
 use Rattle.examples.proofs.frames.written.Statement.{statement}
 use Rattle.examples.proofs.frames.written.Tie as tie
@@ -12,7 +12,7 @@ slice-aggregate-open-frame : tie.Need-slice-aggregate-open-frame
 slice-aggregate-open-frame c = search needs
 
 open-frame-requires : tie.Need-open-frame-requires
-unfolding opening shortest leading place
+unfolding opening shortest leading digit
 open-frame-requires c κs = search needs
 
 slice-aggregate-put-bytes : tie.Need-slice-aggregate-put-bytes
@@ -22,14 +22,14 @@ slice-aggregate-put-bytes-2 : tie.Need-slice-aggregate-put-bytes-2
 slice-aggregate-put-bytes-2 c = search needs
 
 put-bytes-requires : tie.Need-put-bytes-requires
-unfolding opening shortest leading place
+unfolding opening shortest leading digit
 put-bytes-requires c κs = omega arith
 
 slice-aggregate-close-frame : tie.Need-slice-aggregate-close-frame
 slice-aggregate-close-frame c = search needs
 
 close-frame-requires : tie.Need-close-frame-requires
-unfolding opening shortest leading place
+unfolding opening shortest leading digit
 close-frame-requires c κs = omega arith
 
 slice-aggregate-line : tie.Need-slice-aggregate-line
@@ -39,11 +39,11 @@ slice-aggregate-line-2 : tie.Need-slice-aggregate-line-2
 slice-aggregate-line-2 c = search needs
 
 array-share-prefix-area : tie.Need-array-share-prefix-area
-unfolding opening closing shortest leading place
+unfolding opening closing shortest leading digit
 array-share-prefix-area c = omega arith
 
 slice-aggregate-line-3 : tie.Need-slice-aggregate-line-3
-unfolding opening closing shortest leading place
+unfolding opening closing shortest leading digit
 slice-aggregate-line-3 c =
     let f = c .before .before .before .before in
     sym (length-take-le (f .close-frame .result) (f .close-frame .last .0) (omega arith))
@@ -52,7 +52,7 @@ line-requires : tie.Need-line-requires
 line-requires c κs = search needs
 
 array-read-t29 : tie.Need-array-read-t29
-unfolding opening closing shortest leading place
+unfolding opening closing shortest leading digit
 array-read-t29 c = omega arith
 
 slice-aggregate-line-4 : tie.Need-slice-aggregate-line-4

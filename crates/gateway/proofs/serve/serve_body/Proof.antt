@@ -7,7 +7,7 @@ use native.Mathlib.Omega.{arith}
 use borrow.Author.Needs.{needs}
 use lib.ListN.{length}
 use Rattle.text.specs.Put.{Put}
-use Rattle.text.specs.Whole.{place}
+use Rattle.text.specs.Whole.{digit}
 use Rattle.frame.specs.Frame.{frameOf}
 use Rattle.commands.specs.declared.request.Request.{Request}
 use Rattle.commands.specs.declared.request.Request.the-variants as request

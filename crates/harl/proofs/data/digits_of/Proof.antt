@@ -8,8 +8,8 @@ use mir.Val.{SFits}
 use Rattle.harl.proofs.data.digits_of.Statement.{statement}
 use Rattle.harl.proofs.data.digits_of.Tie as tie
 
-size-of-requires : tie.Need-size-of-requires
-size-of-requires c κs = search needs
+unsigned-abs-requires : tie.Need-unsigned-abs-requires
+unsigned-abs-requires c κs = search needs
 
 cast-result : tie.Need-cast-result
 cast-result c = search needs
@@ -18,7 +18,7 @@ returns : tie.Need-returns
 returns c =
     let s = c .before .before in
     let f : SFits w32 (s .args .row .x) = record { sfits = c .before .struct-told .given .0 .1 } in
-    ap (λ (n : ℕ). n % 10000) (c .size-of .ensures ∙ ap natAbs (toZ-ofZ f))
+    ap (λ (n : ℕ). n % 10000) (c .unsigned-abs .ensures ∙ ap natAbs (toZ-ofZ f))
 
 pub digits-of-spec : {M : Type 1} → statement M
-digits-of-spec = tie.close (tie.spec size-of-requires cast-result returns)
+digits-of-spec = tie.close (tie.spec unsigned-abs-requires cast-result returns)

@@ -6,11 +6,11 @@ use borrow.Author.Needs.{needs}
 use Rattle.tables.proofs.perform.store_word.Statement.{statement}
 use Rattle.tables.proofs.perform.store_word.Tie as tie
 
-sized : (c : tie.After-size-of) → c .size-of .result ≡ natAbs (c .before .before .args .v)
-sized c = c .size-of .ensures ∙ ap natAbs (toZ-ofZ (c .before .before .fits .v))
+sized : (c : tie.After-unsigned-abs) → c .unsigned-abs .result ≡ natAbs (c .before .before .args .v)
+sized c = c .unsigned-abs .ensures ∙ ap natAbs (toZ-ofZ (c .before .before .fits .v))
 
-size-of-requires : tie.Need-size-of-requires
-size-of-requires c κs = search needs
+unsigned-abs-requires : tie.Need-unsigned-abs-requires
+unsigned-abs-requires c κs = search needs
 
 cast-words : tie.Need-cast-words
 cast-words c = record { fits = omega (arith, sized c) }
@@ -30,4 +30,4 @@ returns c = rw (sized c)
 pub store-word-spec : {M : Type 1} → statement M
 store-word-spec =
     tie.close
-    (tie.spec size-of-requires cast-words mul-words slice-write-words same-length returns)
+    (tie.spec unsigned-abs-requires cast-words mul-words slice-write-words same-length returns)

@@ -6,11 +6,11 @@ use borrow.Author.Needs.{needs}
 use Rattle.tables.proofs.ports.as_byte.Statement.{statement}
 use Rattle.tables.proofs.ports.as_byte.Tie as tie
 
-sized : (c : tie.After-size-of) → c .size-of .result ≡ natAbs (c .before .args .v)
-sized c = c .size-of .ensures ∙ ap natAbs (toZ-ofZ (c .before .fits .v))
+sized : (c : tie.After-unsigned-abs) → c .unsigned-abs .result ≡ natAbs (c .before .args .v)
+sized c = c .unsigned-abs .ensures ∙ ap natAbs (toZ-ofZ (c .before .fits .v))
 
-size-of-requires : tie.Need-size-of-requires
-size-of-requires c κs = search needs
+unsigned-abs-requires : tie.Need-unsigned-abs-requires
+unsigned-abs-requires c κs = search needs
 
 cast-result : tie.Need-cast-result
 cast-result c = record { fits = omega (arith, sized c) }
@@ -19,4 +19,4 @@ returns : tie.Need-returns
 returns c = sized c
 
 pub as-byte-spec : {M : Type 1} → statement M
-as-byte-spec = tie.close (tie.spec size-of-requires cast-result returns)
+as-byte-spec = tie.close (tie.spec unsigned-abs-requires cast-result returns)

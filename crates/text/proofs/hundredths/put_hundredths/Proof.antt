@@ -13,8 +13,8 @@ use Rattle.text.proofs.Decimals.{text-neg, text-pos}
 use Rattle.text.proofs.hundredths.put_hundredths.Statement.{statement}
 use Rattle.text.proofs.hundredths.put_hundredths.Tie as tie
 
-size-of-requires : tie.Need-size-of-requires
-size-of-requires c κs = search needs
+unsigned-abs-requires : tie.Need-unsigned-abs-requires
+unsigned-abs-requires c κs = search needs
 
 put-byte-requires : tie.Need-put-byte-requires
 put-byte-requires c κs =
@@ -28,7 +28,7 @@ put-magnitude-requires c κs =
     let z = b .before .before .before in
     let s = z .before .before in
     let t : ltZ (toZ w32 (ofZ w32 (s .args .v))) (pos 0) ≡ true = b .before .before .if1 .taken in
-    let m : z .size-of .result ≡ natAbs (s .args .v) = z .size-of .ensures ∙ ap natAbs (toZ-ofZ (s .fits .v)) in
+    let m : z .unsigned-abs .result ≡ natAbs (s .args .v) = z .unsigned-abs .ensures ∙ ap natAbs (toZ-ofZ (s .fits .v)) in
     rw m (omega (arith, ap length (text-neg (s .args .v) (rw (toZ-ofZ (s .fits .v)) at t)), b .put-byte .kept .0, b .put-byte .ensures .next))
 
 same-length : tie.Need-same-length
@@ -41,7 +41,7 @@ returns c =
     let z = b .before .before .before in
     let s = z .before .before in
     let t : ltZ (toZ w32 (ofZ w32 (s .args .v))) (pos 0) ≡ true = b .before .before .if1 .taken in
-    let m : z .size-of .result ≡ natAbs (s .args .v) = z .size-of .ensures ∙ ap natAbs (toZ-ofZ (s .fits .v)) in
+    let m : z .unsigned-abs .result ≡ natAbs (s .args .v) = z .unsigned-abs .ensures ∙ ap natAbs (toZ-ofZ (s .fits .v)) in
     rw (text-neg (s .args .v) (rw (toZ-ofZ (s .fits .v)) at t), ← m) (put-then (b .put-byte .ensures) (p .put-magnitude .ensures))
 
 put-magnitude-requires-2 : tie.Need-put-magnitude-requires-2
@@ -49,7 +49,7 @@ put-magnitude-requires-2 c κs =
     let z = c .before .before in
     let s = z .before .before in
     let t : ltZ (toZ w32 (ofZ w32 (s .args .v))) (pos 0) ≡ false = c .before .if1 .left in
-    let m : z .size-of .result ≡ natAbs (s .args .v) = z .size-of .ensures ∙ ap natAbs (toZ-ofZ (s .fits .v)) in
+    let m : z .unsigned-abs .result ≡ natAbs (s .args .v) = z .unsigned-abs .ensures ∙ ap natAbs (toZ-ofZ (s .fits .v)) in
     rw m (omega (arith, ap length (text-pos (s .args .v) (rw (toZ-ofZ (s .fits .v)) at t))))
 
 same-length-2 : tie.Need-same-length-2
@@ -61,14 +61,14 @@ returns-2 c =
     let z = p .before .before .before in
     let s = z .before .before in
     let t : ltZ (toZ w32 (ofZ w32 (s .args .v))) (pos 0) ≡ false = p .before .before .if1 .left in
-    let m : z .size-of .result ≡ natAbs (s .args .v) = z .size-of .ensures ∙ ap natAbs (toZ-ofZ (s .fits .v)) in
+    let m : z .unsigned-abs .result ≡ natAbs (s .args .v) = z .unsigned-abs .ensures ∙ ap natAbs (toZ-ofZ (s .fits .v)) in
     rw (text-pos (s .args .v) (rw (toZ-ofZ (s .fits .v)) at t), ← m) (p .put-magnitude2 .ensures)
 
 pub put-hundredths-spec : {M : Type 1} → statement M
 put-hundredths-spec =
     tie.close
     (tie.spec
-    size-of-requires
+    unsigned-abs-requires
     put-byte-requires
     put-magnitude-requires
     same-length

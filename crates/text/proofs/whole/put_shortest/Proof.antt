@@ -24,8 +24,8 @@ put-leading-requires-3 c κs =
     let a = p .before .before .before .args in
     (omega arith, omega (arith, shortest-length (a .v), p .put-leading .kept .0, p .put-leading .ensures .next, q .put-leading2 .kept .0, q .put-leading2 .ensures .next))
 
-put-place-requires : tie.Need-put-place-requires
-put-place-requires c κs =
+put-digit-requires : tie.Need-put-digit-requires
+put-digit-requires c κs =
     let r = c .before .before .before in
     let q = r .before .before .before .before in
     let p = q .before .before .before .before in
@@ -42,7 +42,7 @@ returns c =
     let r = d .before .before .before .before in
     let q = r .before .before .before .before in
     let p = q .before .before .before .before in
-    put-then (p .put-leading .ensures) (put-then (q .put-leading2 .ensures) (put-then (r .put-leading3 .ensures) (d .put-place .ensures)))
+    put-then (p .put-leading .ensures) (put-then (q .put-leading2 .ensures) (put-then (r .put-leading3 .ensures) (d .put-digit .ensures)))
 
 pub put-shortest-spec : {M : Type 1} → statement M
 put-shortest-spec =
@@ -51,6 +51,6 @@ put-shortest-spec =
     put-leading-requires
     put-leading-requires-2
     put-leading-requires-3
-    put-place-requires
+    put-digit-requires
     same-length
     returns)

@@ -8,8 +8,8 @@ use mir.Facts.{toZ-ofZ}
 use mir.Syntax.{w32}
 use mir.Val.{toZ, ofZ}
 use Rattle.text.proofs.Signed.{Turned, turned, above}
-use Rattle.text.proofs.hundredths.size_of.Statement.{statement}
-use Rattle.text.proofs.hundredths.size_of.Tie as tie
+use Rattle.text.proofs.hundredths.unsigned_abs.Statement.{statement}
+use Rattle.text.proofs.hundredths.unsigned_abs.Tie as tie
 
 known : (c : tie.Then1) → Turned (c .before .args .v) (negsuc 0 -ℤ c .before .args .v)
 known c =
@@ -38,6 +38,6 @@ returns c = rw (toZ-ofZ (c .before .fits .v), toZ-ofZ (known c .fits)) (known c 
 returns-2 : tie.Need-returns-2
 returns-2 c = search needs
 
-pub size-of-spec : {M : Type 1} → statement M
-size-of-spec =
+pub unsigned-abs-spec : {M : Type 1} → statement M
+unsigned-abs-spec =
     tie.close (tie.spec sub-result cast-result add-result cast-result-2 returns returns-2)

@@ -1,7 +1,7 @@
 use borrow.Author.Needs.{needs}
-use Rattle.text.specs.Whole.{place}
-use Rattle.text.proofs.whole.put_place.Statement.{statement}
-use Rattle.text.proofs.whole.put_place.Tie as tie
+use Rattle.text.specs.Whole.{digit}
+use Rattle.text.proofs.whole.put_digit.Statement.{statement}
+use Rattle.text.proofs.whole.put_digit.Tie as tie
 
 div-d : tie.Need-div-d
 div-d c = search needs
@@ -19,9 +19,9 @@ same-length : tie.Need-same-length
 same-length c = search needs
 
 returns : tie.Need-returns
-unfolding place
+unfolding digit
 returns c = search needs
 
-pub put-place-spec : {M : Type 1} → statement M
-put-place-spec =
+pub put-digit-spec : {M : Type 1} → statement M
+put-digit-spec =
     tie.close (tie.spec div-d cast-put-byte add-put-byte put-byte-requires same-length returns)
