@@ -1,26 +1,31 @@
-// One call of each kind, and the line that it prints.
+// One call of each kind, and what its line says.
+use crate::snapshot::put_zero;
+use crate::snapshot::snapshot;
+use crate::steps::Step;
+use commands::request::Port;
 use gateway::input::input;
 use gateway::serve::serve;
+use gateway::setup::setup;
 use print::put;
-use print::put_bytes;
-use print::put_label;
 use print::put_two_digits;
 use print::put_whole;
+use print::put_written;
 
-// The number of a call, then its reply.
-fn put_answer(number: u8, reply: &[u8]) {
-    put_two_digits(number);
-    if reply.len() == 0 {
-        put(b", no reply\n");
-        return;
-    }
+fn put_station(s: u8) {
     put(b" ");
-    put_bytes(reply);
-    put(b"\n");
+    put_whole(s as u64);
 }
 
-// Serves a slice under a label of its own.
-pub fn call(
+fn put_stations(s: &[u8; 4]) {
+    put(b", stations");
+    put_station(s[0]);
+    put_station(s[1]);
+    put_station(s[2]);
+    put_station(s[3]);
+}
+
+// Serves a slice with an area for its reply.
+fn answer(
     t: &mut [[u16; 16]; 4],
     d: &mut [[u16; 64]; 4],
     x: &mut [[i32; 100]; 4],
@@ -29,62 +34,78 @@ pub fn call(
     o: &mut [[u8; 32]; 4],
     m: &mut [[u8; 16]; 4],
     s: &[u8; 4],
-    kind: &[u8],
-    name: &[u8],
     slice: &[u8],
+    area: &mut [u8],
 ) {
-    put_label(kind, name);
-    let mut reply = [0u8; 64];
-    let sent = serve(t, d, x, y, i, o, m, s, slice, &mut reply);
-    let length = sent.length;
-    put_answer(sent.number, &reply[..length]);
+    let sent = serve(t, d, x, y, i, o, m, s, slice, area);
+    put_written(sent.number, sent.length, b", no reply", area);
 }
 
-// What stands between STX and ETX; the whole of a slice that has no room for them.
-fn inside(slice: &[u8]) -> &[u8] {
-    let n = slice.len();
-    if n < 3 {
-        return slice;
+// Sets up a box in other memory, every entry of which is 7 before.
+fn set_up_other(want: [u16; 4]) {
+    let mut t = [[7u16; 16]; 4];
+    let mut d = [[7u16; 64]; 4];
+    let mut x = [[7i32; 100]; 4];
+    let mut y = [[7i32; 100]; 4];
+    let mut i = [[7u8; 32]; 4];
+    let mut o = [[7u8; 32]; 4];
+    let mut m = [[7u8; 16]; 4];
+    let mut s = [7u8; 4];
+    put_two_digits(setup(
+        &mut t,
+        &mut d,
+        &mut x,
+        &mut y,
+        &mut i,
+        &mut o,
+        &mut m,
+        &mut s,
+        want,
+    ));
+    put_stations(&s);
+    put_zero(b", other tables", &snapshot(&t, &d, &x, &y, &i, &o, &m));
+}
+
+// Makes the call of a step.
+pub fn make(
+    t: &mut [[u16; 16]; 4],
+    d: &mut [[u16; 64]; 4],
+    x: &mut [[i32; 100]; 4],
+    y: &mut [[i32; 100]; 4],
+    i: &mut [[u8; 32]; 4],
+    o: &mut [[u8; 32]; 4],
+    m: &mut [[u8; 16]; 4],
+    s: &mut [u8; 4],
+    step: Step,
+    slice: &[u8],
+) {
+    match step {
+        Step::Heading => {}
+        Step::Setup(a, b, c, e) => {
+            put_two_digits(setup(t, d, x, y, i, o, m, s, [a, b, c, e]));
+            put_stations(s);
+        }
+        Step::Other(a, b, c, e) => set_up_other([a, b, c, e]),
+        Step::Input(slot, port, byte) => put_two_digits(input(
+            t,
+            d,
+            x,
+            y,
+            i,
+            o,
+            m,
+            s,
+            slot as usize,
+            Port(port),
+            byte,
+        )),
+        Step::Narrow => {
+            let mut area = [0xaa; 63];
+            answer(t, d, x, y, i, o, m, s, slice, &mut area);
+        }
+        Step::Serve => {
+            let mut area = [0xaa; 64];
+            answer(t, d, x, y, i, o, m, s, slice, &mut area);
+        }
     }
-    &slice[1..n - 2]
-}
-
-// Serves a frame.
-pub fn ask(
-    t: &mut [[u16; 16]; 4],
-    d: &mut [[u16; 64]; 4],
-    x: &mut [[i32; 100]; 4],
-    y: &mut [[i32; 100]; 4],
-    i: &mut [[u8; 32]; 4],
-    o: &mut [[u8; 32]; 4],
-    m: &mut [[u8; 16]; 4],
-    s: &[u8; 4],
-    slice: &[u8],
-) {
-    call(t, d, x, y, i, o, m, s, b"serving", inside(slice), slice);
-}
-
-// Makes an input call.
-pub fn sense(
-    t: &mut [[u16; 16]; 4],
-    d: &mut [[u16; 64]; 4],
-    x: &mut [[i32; 100]; 4],
-    y: &mut [[i32; 100]; 4],
-    i: &mut [[u8; 32]; 4],
-    o: &mut [[u8; 32]; 4],
-    m: &mut [[u8; 16]; 4],
-    s: &[u8; 4],
-    slot: usize,
-    port: usize,
-    byte: u8,
-) {
-    put(b"input slot ");
-    put_whole(slot as u64);
-    put(b" port ");
-    put_whole(port as u64);
-    put(b" byte ");
-    put_whole(byte as u64);
-    put(b": ");
-    put_two_digits(input(t, d, x, y, i, o, m, s, slot, port, byte));
-    put(b"\n");
 }

@@ -49,6 +49,29 @@ fn put_hexadecimal(b: u8) {
     put(&digits);
 }
 
+// A byte of a text: as it is, or in hexadecimal between < and > where it is no character.
+fn put_character(b: u8) {
+    if 0x20 <= b && b <= 0x7e {
+        put(&[b]);
+        return;
+    }
+    put(b"<");
+    put_hexadecimal(b);
+    put(b">");
+}
+
+// The bytes of a slice as text.
+pub fn put_slice(s: &[u8]) {
+    if s.len() == 0 {
+        put(b"no bytes");
+    }
+    let mut i = 0;
+    while i < s.len() {
+        put_character(s[i]);
+        i += 1;
+    }
+}
+
 // Each byte in hexadecimal, with a space between two.
 pub fn put_bytes(s: &[u8]) {
     let mut i = 0;
@@ -59,4 +82,47 @@ pub fn put_bytes(s: &[u8]) {
         put_hexadecimal(s[i]);
         i += 1;
     }
+}
+
+// The first n bytes of s; all of s where it has fewer.
+pub fn front(s: &[u8], n: usize) -> &[u8] {
+    if s.len() < n {
+        return s;
+    }
+    &s[..n]
+}
+
+// How many bytes at the end of an area are AAh.
+fn untouched(area: &[u8]) -> usize {
+    let mut n = 0;
+    while n < area.len() {
+        if area[area.len() - 1 - n] != 0xaa {
+            return n;
+        }
+        n += 1;
+    }
+    n
+}
+
+// What a writer answered: its number, the bytes that it wrote or what is said of none, and how many bytes at
+// the end of the area are still AAh, with which it was filled.
+pub fn put_written(number: u8, length: usize, none: &[u8], area: &[u8]) {
+    put(b": ");
+    put_two_digits(number);
+    if length == 0 {
+        put(none);
+    } else {
+        put(b" ");
+        put_bytes(front(area, length));
+    }
+    put(b", ");
+    put_whole(untouched(area) as u64);
+    put(b" untouched");
+}
+
+// The rest of a line that ends with a number of two digits.
+pub fn put_number(number: u8) {
+    put(b": ");
+    put_two_digits(number);
+    put(b"\n");
 }
