@@ -1,7 +1,6 @@
-// Replies written and read back, and slices read as replies. A name has the reply and the request that it
-// answers.
-use crate::show;
-use crate::show::Outcome;
+// Replies written and read back, and slices read as replies.
+use crate::words::put_asked;
+use crate::words::put_outcome;
 use commands::request::Load;
 use commands::request::Port;
 use commands::request::Request;
@@ -11,10 +10,21 @@ use commands::request::Store;
 use harl::message::Answered;
 use harl::message::read_reply;
 use harl::message::write_reply;
-use harl::reply;
 use harl::reply::Data;
+use harl::reply::Outcome;
+use print::front;
+use print::put;
+use print::put_number;
+use print::put_slice;
+use print::put_written;
+use text::scan::find;
 
-// The requests that are answered.
+// What a reply carries, and the request that it answers with its station.
+struct Reply(Outcome, u8, Request);
+
+// A request with its station.
+struct Case(u8, Request);
+
 const LNT_5: Request = Request::Load(Load::Timer(5));
 
 const LNT_16: Request = Request::Load(Load::Timer(16));
@@ -23,129 +33,144 @@ const SNT: Request = Request::Store(Store::Timer(0, 0));
 
 const SNT_1000: Request = Request::Store(Store::Timer(0, 1000));
 
-fn read(name: &[u8], slice: &[u8], station: u8, request: Request) {
+// Reads a slice as the reply to a request.
+fn read(slice: &[u8], station: u8, request: Request) {
+    put(b"reply ");
+    put_slice(slice);
+    put_asked(b" to ", station, request);
     let answered = read_reply(slice, station, request);
     match answered {
-        Answered::Accepted(outcome) => show::line(b"reply", name, Outcome::Answered(outcome)),
-        Answered::Refused(number) => show::line(b"reply", name, Outcome::Refused(number)),
+        Answered::Accepted(outcome) => {
+            put(b": 00 ");
+            put_outcome(outcome);
+            put(b"\n");
+        }
+        Answered::Refused(number) => put_number(number),
     }
 }
 
-// What is written is read back.
-fn write(name: &[u8], station: u8, request: Request, outcome: reply::Outcome) {
-    let mut area = [0xaa; 64];
-    let answer = write_reply(&mut area, station, request, outcome);
-    show::sent(b"reply written", name, answer, &area);
-    let n = answer.length;
+// Writes a reply into an area that is filled with AAh, and returns its length.
+fn write_into(area: &mut [u8], outcome: Outcome, station: u8, request: Request) -> usize {
+    put(b"reply written ");
+    put_outcome(outcome);
+    put_asked(b" to ", station, request);
+    let sent = write_reply(area, station, request, outcome);
+    put_written(sent.number, sent.length, b", nothing", area);
+    put(b"\n");
+    sent.length
+}
+
+fn filled() -> [u8; 64] {
+    [0xaa; 64]
+}
+
+// A reply that is written is read back.
+fn write(outcome: Outcome, station: u8, request: Request) {
+    let mut area = filled();
+    let n = write_into(&mut area, outcome, station, request);
     if 0 < n {
-        read(name, &area[..n], station, request);
+        read(front(&area, n), station, request);
     }
 }
 
-fn write_data(name: &[u8], station: u8, load: Load, held: Data) {
-    write(
-        name,
-        station,
-        Request::Load(load),
-        reply::Outcome::Data(held),
-    );
+fn data(held: Data, station: u8, load: Load) -> Reply {
+    Reply(Outcome::Data(held), station, Request::Load(load))
 }
 
-fn write_status(name: &[u8], station: u8, request: Request, status: u8) {
-    write(name, station, request, reply::Outcome::Status(status));
+fn status(n: u8, station: u8, request: Request) -> Reply {
+    Reply(Outcome::Status(n), station, request)
 }
 
-pub fn data_of_each_kind() {
-    write_data(b"1 9.99 to 1 LNT 5", 1, Load::Timer(5), Data::Timer(999));
-    write_data(
-        b"2 0042 to 2 LND 15",
-        2,
-        Load::Register(15),
-        Data::Register(42),
-    );
-    write_data(
-        b"3 -0.05 9999.99 to 3 LNL 99",
-        3,
-        Load::Row(99),
-        Data::Row(Row { x: -5, y: 999999 }),
-    );
-    write_data(
-        b"4 1 to 4 LNIB 255",
-        4,
-        Load::Input(Signal(255)),
-        Data::Signal(1),
-    );
-    write_data(
-        b"5 255 to 5 LNOD 31",
-        5,
-        Load::OutputPort(Port(31)),
-        Data::Port(255),
-    );
+// The replies that are written.
+fn reply_of(k: usize) -> Reply {
+    match k {
+        // Data of each kind.
+        0 => data(Data::Timer(999), 1, Load::Timer(5)),
+        1 => data(Data::Register(42), 2, Load::Register(15)),
+        2 => data(Data::Row(Row { x: -5, y: 999999 }), 3, Load::Row(99)),
+        3 => data(Data::Signal(1), 4, Load::Input(Signal(255))),
+        4 => data(Data::Port(255), 5, Load::OutputPort(Port(31))),
+        // Statuses, the last of them P2's.
+        5 => status(5, 1, LNT_5),
+        6 => status(5, 1, SNT),
+        7 => status(0, 2, Request::Store(Store::Register(63, 42))),
+        // Check 12 of what a reply carries: data of another kind or out of range, data for an SN, a status
+        // above 99.
+        8 => data(Data::Register(5), 1, Load::Timer(5)),
+        9 => data(Data::Timer(1000), 1, Load::Timer(5)),
+        10 => Reply(Outcome::Data(Data::Timer(0)), 1, SNT),
+        11 => status(100, 1, LNT_5),
+        // Checks 7, 11 and 12 of the request come before.
+        12 => status(100, 0, LNT_16),
+        13 => status(100, 1, LNT_16),
+        _ => status(0, 1, SNT_1000),
+    }
 }
 
-// The last is P2's.
-pub fn statuses() {
-    write_status(b"1 E05 to 1 LNT 5", 1, LNT_5, 5);
-    write_status(b"1 05 to 1 SNT 0 0.00", 1, SNT, 5);
-    write_status(
-        b"2 00 to 2 SND 63 0042",
-        2,
-        Request::Store(Store::Register(63, 42)),
-        0,
+pub fn typed() {
+    let mut k = 0;
+    while k < 15 {
+        let case = reply_of(k);
+        let outcome = case.0;
+        let request = case.2;
+        write(outcome, case.1, request);
+        k += 1;
+    }
+}
+
+// An area of 63 bytes is refused before the station is.
+pub fn written_to_63_bytes() {
+    let mut area = [0xaa; 63];
+    write_into(&mut area, Outcome::Data(Data::Timer(999)), 1, LNT_5);
+    write_into(&mut area, Outcome::Data(Data::Timer(999)), 0, LNT_5);
+}
+
+// A request that a reply is read for: one that is refused, or not.
+fn asked_of(digit: u8) -> Case {
+    match digit {
+        b'0' => Case(0, LNT_16),
+        b'1' => Case(1, LNT_16),
+        b'2' => Case(1, SNT_1000),
+        b'3' => Case(1, LNT_5),
+        _ => Case(1, SNT),
+    }
+}
+
+// Reads what follows the digit of asked_of as a reply.
+fn read_line(line: &[u8]) {
+    if line.len() == 0 {
+        return;
+    }
+    let case = asked_of(line[0]);
+    let request = case.1;
+    read(&line[1..], case.0, request);
+}
+
+// Reads each line.
+fn read_each(lines: &[u8]) {
+    let mut at = 0;
+    while at < lines.len() {
+        let end = find(lines, at, b'\n');
+        read_line(&lines[at..end]);
+        at = end + 1;
+    }
+}
+
+// Checks 7, 11 and 12 of the request, which come before check 2 of the slice. Checks 2 and 5 of the slice, and
+// check 15: another station, data out of range or of a wrong form.
+pub fn refused() {
+    read_each(
+        b"0\n\
+          1\n\
+          2\n\
+          3\n\
+          3\x021 9.99\x03\x04\n\
+          3\x022 9.99\x03\x06\n\
+          3\x021 10.00\x03\x3d\n\
+          3\x021 x\x03\x6a\n\
+          3\x021 9.99 1\x03\x14\n\
+          3\x021 E5\x03\x62\n\
+          4\x021 E05\x03\x52\n\
+          4\x021 000\x03\x22\n",
     );
-}
-
-// Check 12 of what a reply carries: data of another kind or out of range, data for an SN, a status above 99.
-pub fn outcomes_refused() {
-    write_data(
-        b"register 5 to 1 LNT 5",
-        1,
-        Load::Timer(5),
-        Data::Register(5),
-    );
-    write_data(
-        b"timer 1000 to 1 LNT 5",
-        1,
-        Load::Timer(5),
-        Data::Timer(1000),
-    );
-    write(
-        b"timer 0 to 1 SNT 0 0.00",
-        1,
-        SNT,
-        reply::Outcome::Data(Data::Timer(0)),
-    );
-    write_status(b"status 100 to 1 LNT 5", 1, LNT_5, 100);
-}
-
-// Checks 7, 11 and 12 of the request come before: of a reply that is refused by itself, and of an empty
-// slice.
-pub fn requests_refused() {
-    write_status(b"status 100 to 0 LNT 16", 0, LNT_16, 100);
-    write_status(b"status 100 to 1 LNT 16", 1, LNT_16, 100);
-    write_status(b"status 0 to 1 SNT 0 10.00", 1, SNT_1000, 0);
-    read(b"empty slice to 0 LNT 16", b"", 0, LNT_16);
-    read(b"empty slice to 1 LNT 16", b"", 1, LNT_16);
-    read(b"empty slice to 1 SNT 0 10.00", b"", 1, SNT_1000);
-}
-
-fn read_timer(name: &[u8], slice: &[u8]) {
-    read(name, slice, 1, LNT_5);
-}
-
-fn read_stored(name: &[u8], slice: &[u8]) {
-    read(name, slice, 1, SNT);
-}
-
-// Checks 2 and 5 of the slice, and check 15: another station, data out of range or of a wrong form.
-pub fn slices_refused() {
-    read_timer(b"empty slice to 1 LNT 5", b"");
-    read_timer(b"LRC 04h for 05h to 1 LNT 5", b"\x021 9.99\x03\x04");
-    read_timer(b"2 9.99 to 1 LNT 5", b"\x022 9.99\x03\x06");
-    read_timer(b"1 10.00 to 1 LNT 5", b"\x021 10.00\x03\x3d");
-    read_timer(b"1 x to 1 LNT 5", b"\x021 x\x03\x6a");
-    read_timer(b"1 9.99 1 to 1 LNT 5", b"\x021 9.99 1\x03\x14");
-    read_timer(b"1 E5 to 1 LNT 5", b"\x021 E5\x03\x62");
-    read_stored(b"1 E05 to 1 SNT 0 0.00", b"\x021 E05\x03\x52");
-    read_stored(b"1 000 to 1 SNT 0 0.00", b"\x021 000\x03\x22");
 }

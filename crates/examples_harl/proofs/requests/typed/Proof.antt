@@ -1,0 +1,46 @@
+-- The invariant: k is at most the number of cases.
+use Prim.Native.Nat.{_≤_, _-_}
+use borrow.Author.Needs.{needs}
+use Rattle.examples_harl.proofs.requests.typed.Statement.{statement}
+use Rattle.examples_harl.proofs.requests.typed.Tie as tie
+
+abbrev Inv-loop : tie.InvT-loop
+Inv-loop k₀ k = k ≤ 8
+
+abbrev μ-loop : tie.MeasureT-loop
+μ-loop k₀ k = 8 - k
+
+loop-holds : tie.Need-loop-holds Inv-loop μ-loop
+loop-holds c = search needs
+
+case-of-requires : tie.Need-case-of-requires Inv-loop μ-loop
+case-of-requires c κs = search needs
+
+write-requires : tie.Need-write-requires Inv-loop μ-loop
+write-requires c κs = search needs
+
+add-k : tie.Need-add-k Inv-loop μ-loop
+add-k c = search needs
+
+loop-less : tie.Need-loop-less Inv-loop μ-loop
+loop-less c = search needs
+
+loop-again : tie.Need-loop-again Inv-loop μ-loop
+loop-again c = search needs
+
+returns : tie.Need-returns Inv-loop μ-loop
+returns c = search needs
+
+pub typed-spec : {M : Type 1} → statement M
+typed-spec =
+    tie.close
+    (tie.spec
+    Inv-loop
+    μ-loop
+    loop-holds
+    case-of-requires
+    write-requires
+    add-k
+    loop-less
+    loop-again
+    returns)
