@@ -157,7 +157,8 @@ fn read_each(lines: &[u8]) {
 }
 
 // Checks 7, 11 and 12 of the request, which come before check 2 of the slice. Checks 2 and 5 of the slice, and
-// check 15: another station, data out of range or of a wrong form.
+// check 15: another station, data out of range or of a wrong form. The last is read: any two digits may follow
+// "E".
 pub fn refused() {
     read_each(
         b"0\n\
@@ -171,6 +172,7 @@ pub fn refused() {
           3\x021 9.99 1\x03\x14\n\
           3\x021 E5\x03\x62\n\
           4\x021 E05\x03\x52\n\
-          4\x021 000\x03\x22\n",
+          4\x021 000\x03\x22\n\
+          3\x021 E09\x03\x5e\n",
     );
 }

@@ -1,7 +1,6 @@
 // Setup: a new box in memory that the caller lends.
 ghost use mathlib.Core.Path.{_≡_};
 ghost use Prim.Native.Nat.{_-_, _≤_};
-ghost use lib.ListN.{length};
 ghost use Rattle.tables.specs.Tables.{tables, zeros};
 ghost use Rattle.model.specs.Box.{lacks, distinct, small, setupNumber};
 ghost use Rattle.gateway.specs.Entries.{SetUp};

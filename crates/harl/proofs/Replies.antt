@@ -1,14 +1,14 @@
 -- Every reply that can be written reads back as itself, given its request.
-use Prim.Native.Nat.{ℕ, _≤_, _+_, _/_, _%_}
+use Prim.Native.Nat.{ℕ, _≤_, _+_}
 use mathlib.Core.Path.{_≡_, refl, ap}
-use mathlib.Core.Bool.{Bool, true, false, cond, _&&_, and-eq-true-iff}
+use mathlib.Core.Bool.{Bool, true, false, cond}
 use mathlib.Core.List.{[], append-nil}
 use native.Mathlib.Omega.{arith}
 use borrow.Author.Tests.{ne-eqb, eqb-true, ltb-false, eqb-false, eq-eqb}
 use lib.Dec.{ltb, eqb}
 use lib.ListN.{getD}
 use Rattle.text.specs.Scan.{until, before}
-use Rattle.text.specs.Whole.{readWhole, digit}
+use Rattle.text.specs.Whole.{digit}
 use Rattle.text.proofs.Laws.{Skips, skips-cons, not-first}
 use Rattle.text.proofs.Digits.{read-two, two-skips}
 use Rattle.frame.specs.Frame.{isStray}
@@ -22,9 +22,8 @@ use Rattle.harl.specs.declared.reply.Outcome.{Outcome}
 use Rattle.harl.specs.declared.reply.Outcome.the-variants as outcome
 use Rattle.harl.specs.declared.reply.Carried.{Carried}
 use Rattle.harl.specs.declared.reply.Carried.the-variants as carried
-use Rattle.commands.specs.Command.{same}
 use Rattle.harl.specs.Data.{allInRange, dataText}
-use Rattle.harl.specs.Reply.{contentOf, dataOf, dataFit, judgeOutcome, twoDigits, statusText, doneText, contentText, outcomeText, asStatus, readStatus, readLoadOutcome, readOutcome}
+use Rattle.harl.specs.Reply.{contentOf, dataOf, dataFit, judgeOutcome, twoDigits, statusText, contentText, outcomeText, asStatus, readStatus, readLoadOutcome, readOutcome}
 use Rattle.harl.specs.Message.{ruleFor, judgeAsked, judgeReply, readReply, writeReply}
 use Rattle.harl.specs.Back.{RepliesReadBack}
 use Rattle.harl.proofs.Laws.{fitting}

@@ -34,10 +34,6 @@ pub check-passed : (t : Bool) (k m : ℕ) → 1 ≤ k → cond t k m ≡ 0 → (
 check-passed true k m h e = absurd (omega arith)
 check-passed false k m h e = (refl, e)
 
-pub last-passed : (t : Bool) (k : ℕ) → 1 ≤ k → cond t 0 k ≡ 0 → t ≡ true
-last-passed true k h e = refl
-last-passed false k h e = absurd (omega arith)
-
 pub neither : (s t : Bool) → s || t ≡ false → (s ≡ false) × (t ≡ false)
 neither true t e = let z : _≡_ {A = ℕ} 0 1 = cc in absurd (omega arith)
 neither false t e = (refl, e)

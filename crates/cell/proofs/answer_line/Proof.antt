@@ -11,7 +11,7 @@ use Rattle.text.specs.Put.{Put}
 use Rattle.tables.specs.Tables.{Tables}
 use Rattle.model.specs.Box.{Box}
 use Rattle.lines.specs.declared.reader.Line.{Line}
-use Rattle.lines.specs.declared.reader.Line.the-variants.{Slice, NoCall}
+use Rattle.lines.specs.declared.reader.Line.the-variants.{Slice}
 use Rattle.lines.specs.Lines.{isCall, sliceOf, lineOf, heldAfter, Short, noCallLine}
 use Rattle.lines.proofs.Laws.{held-length, read-slice, read-no-call}
 use Rattle.cell.specs.Cell.{lineAnswer, boxAfter, roomAt, CallAnswered, LineAnswered}

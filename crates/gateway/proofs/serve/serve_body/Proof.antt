@@ -1,24 +1,22 @@
 -- `b` is where the body was read, `v` what it was judged, `p` where the request was performed, and `w` where the reply was put.
 use Prim.Native.Nat.{ℕ, _≤_}
-use mathlib.Core.Path.{_≡_, refl, sym, _∙_}
+use mathlib.Core.Path.{_≡_, sym, _∙_}
 use mathlib.Core.Bool.{Bool, true}
 use mathlib.Core.List.{List}
 use native.Mathlib.Omega.{arith}
 use borrow.Author.Needs.{needs}
 use lib.ListN.{length}
 use Rattle.text.specs.Put.{Put}
-use Rattle.text.specs.Whole.{digit}
 use Rattle.frame.specs.Frame.{frameOf}
 use Rattle.commands.specs.declared.request.Request.{Request}
-use Rattle.commands.specs.declared.request.Request.the-variants as request
 use Rattle.harl.specs.declared.body.Judged.the-variants.{Accepted, Refused}
 use Rattle.harl.specs.declared.reply.Outcome.{Outcome}
 use Rattle.harl.specs.Body.{readBody}
-use Rattle.harl.specs.Reply.{statusText, doneText, outcomeText, refusalText}
+use Rattle.harl.specs.Reply.{outcomeText, refusalText}
 use Rattle.harl.specs.Message.{Wrote}
-use Rattle.tables.specs.Tables.{Tables, performed, answered, Performed}
-use Rattle.model.specs.Box.{asked, performTables, respond}
-use Rattle.gateway.specs.Entries.{box, BodyServed}
+use Rattle.tables.specs.Tables.{Tables, performed, Performed}
+use Rattle.model.specs.Box.{respond}
+use Rattle.gateway.specs.Entries.{BodyServed}
 use Rattle.harl.proofs.Accepted.{accepted-in-range}
 use Rattle.harl.proofs.Bodies.{outcome-length, refusal-length, frame-fits, wrote-all}
 use Rattle.gateway.proofs.serve.serve_body.Statement.{statement}

@@ -1,4 +1,4 @@
-use mathlib.Core.Path.{sym, _∙_}
+use mathlib.Core.Path.{sym}
 use borrow.Author.Needs.{needs}
 use Rattle.model.specs.Box.{setupNumber}
 use Rattle.gateway.proofs.setup.judge_setup.Statement.{statement}
