@@ -1,6 +1,9 @@
 // Numbers read from texts, and written as texts.
-use crate::show;
-use crate::show::Outcome;
+use print::front;
+use print::put;
+use print::put_signed;
+use print::put_text;
+use print::put_whole;
 use text::hundredths::Hundredths;
 use text::hundredths::put_hundredths;
 use text::hundredths::read_hundredths;
@@ -9,75 +12,79 @@ use text::whole::put_padded;
 use text::whole::put_shortest;
 use text::whole::read_whole;
 
-fn read_as_hundredths(field: &[u8]) {
-    let h = read_hundredths(field);
+fn put_label(kind: &[u8], text: &[u8]) {
+    put(kind);
+    put_text(text);
+    put(b": ");
+}
+
+pub fn read_as_hundredths(text: &[u8]) {
+    put_label(b"hundredths ", text);
+    let h = read_hundredths(text);
     match h {
-        Hundredths::Value(v) => show::line(b"hundredths", field, Outcome::Signed(v), b""),
-        Hundredths::Malformed => show::line(b"hundredths", field, Outcome::Malformed, b""),
+        Hundredths::Value(v) => put_signed(v),
+        Hundredths::Malformed => put(b"malformed"),
     }
+    put(b"\n");
 }
 
-pub fn hundredths_read() {
-    read_as_hundredths(b"-0.05");
-    read_as_hundredths(b"-0");
-    read_as_hundredths(b"-0.0");
-    read_as_hundredths(b"-0.00");
-    read_as_hundredths(b"12.5");
-    read_as_hundredths(b"-9999.99");
-    read_as_hundredths(b"10000");
-    read_as_hundredths(b"1.");
-    read_as_hundredths(b".5");
-    read_as_hundredths(b"1.234");
-    read_as_hundredths(b"+1");
-    read_as_hundredths(b"");
-}
-
-fn read_as_whole(field: &[u8]) {
-    let w = read_whole(field);
+pub fn read_as_whole(text: &[u8]) {
+    put_label(b"whole ", text);
+    let w = read_whole(text);
     match w {
-        Whole::Value(v) => show::line(b"whole", field, Outcome::Whole(v as u64), b""),
-        Whole::Malformed => show::line(b"whole", field, Outcome::Malformed, b""),
+        Whole::Value(v) => put_whole(v as u64),
+        Whole::Malformed => put(b"malformed"),
     }
+    put(b"\n");
 }
 
-pub fn wholes_read() {
-    read_as_whole(b"0042");
-    read_as_whole(b"10000");
-    read_as_whole(b"");
-    read_as_whole(b"-1");
-}
-
-fn write_hundredths(name: &[u8], v: i32) {
+fn write_hundredths(v: i32) {
     let mut area = [0u8; 8];
     let n = put_hundredths(&mut area, 0, v);
-    show::line(b"hundredths written", name, Outcome::Text, &area[..n]);
+    put(b"hundredths written ");
+    put_signed(v);
+    put(b": ");
+    put_text(front(&area, n));
+    put(b"\n");
 }
 
 pub fn hundredths_written() {
-    write_hundredths(b"5", 5);
-    write_hundredths(b"-5", -5);
-    write_hundredths(b"0", 0);
-    write_hundredths(b"999999", 999999);
-    write_hundredths(b"-999999", -999999);
+    let values = [5, -5, 0, 999999, -999999];
+    let mut k = 0;
+    while k < 5 {
+        write_hundredths(values[k]);
+        k += 1;
+    }
 }
 
-fn write_shortest(name: &[u8], v: u16) {
+fn write_shortest(v: u16) {
     let mut area = [0u8; 4];
     let n = put_shortest(&mut area, 0, v);
-    show::line(b"shortest", name, Outcome::Text, &area[..n]);
+    put_text(front(&area, n));
 }
 
-fn write_padded(name: &[u8], v: u16) {
+fn write_padded(v: u16) {
     let mut area = [0u8; 4];
     let n = put_padded(&mut area, 0, v);
-    show::line(b"four digits", name, Outcome::Text, &area[..n]);
+    put_text(front(&area, n));
+}
+
+// A whole number in its shortest form, and with four digits.
+fn write_whole(v: u16) {
+    put(b"whole written ");
+    put_whole(v as u64);
+    put(b": ");
+    write_shortest(v);
+    put(b" ");
+    write_padded(v);
+    put(b"\n");
 }
 
 pub fn wholes_written() {
-    write_shortest(b"0", 0);
-    write_shortest(b"42", 42);
-    write_shortest(b"9999", 9999);
-    write_padded(b"0", 0);
-    write_padded(b"42", 42);
-    write_padded(b"9999", 9999);
+    let values = [0, 42, 9999];
+    let mut k = 0;
+    while k < 3 {
+        write_whole(values[k]);
+        k += 1;
+    }
 }

@@ -1,4 +1,4 @@
-// A script run.
+// Runs a script: each line's call is made, and the tables before and after it are compared.
 use crate::calls::make;
 use crate::snapshot::put_tables;
 use crate::snapshot::snapshot;
@@ -7,7 +7,7 @@ use crate::steps::slice_of;
 use crate::steps::step_of;
 use text::scan::find;
 
-// Makes the call of a line.
+// Makes the call of a line, given the tables' entries before it, and returns those after it.
 fn call(
     t: &mut [[u16; 16]; 4],
     d: &mut [[u16; 64]; 4],
@@ -28,7 +28,7 @@ fn call(
     after
 }
 
-// Makes the call of each line of a script.
+// Makes the call of each line of a script, on tables that are all zero.
 pub fn run(
     t: &mut [[u16; 16]; 4],
     d: &mut [[u16; 64]; 4],

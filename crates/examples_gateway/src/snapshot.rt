@@ -11,6 +11,7 @@ fn from_word(w: u16) -> i32 {
     w as i32
 }
 
+// Entry n of a table, the four arms' one after the other.
 fn timer(t: &[[u16; 16]; 4], n: usize) -> i32
     requires { ⌜ n < 64 ⌝ }
 {
@@ -41,6 +42,7 @@ fn memory_port(m: &[[u8; 16]; 4], n: usize) -> i32
     from_byte(m[n / 16][n % 16])
 }
 
+// Entry n of all the tables, one after the other.
 fn entry(
     t: &[[u16; 16]; 4],
     d: &[[u16; 64]; 4],
@@ -74,6 +76,7 @@ fn entry(
     memory_port(m, n - 1376)
 }
 
+// Every entry of the tables.
 pub fn snapshot(
     t: &[[u16; 16]; 4],
     d: &[[u16; 64]; 4],
@@ -104,7 +107,7 @@ fn is_same(a: &[i32; 1440], b: &[i32; 1440]) -> bool {
     true
 }
 
-// Whether every entry of the tables so named is 0.
+// Says of the tables so named whether every entry is 0.
 pub fn put_zero(name: &[u8], entries: &[i32; 1440]) {
     let zero = [0; 1440];
     put(name);

@@ -82,7 +82,7 @@ pub fn slice_of(step: Step, line: &[u8]) -> &[u8] {
     }
 }
 
-// What stands before the answer to a step; that of a serving call starts with the colon itself.
+// What stands before a step's answer.
 pub fn put_label(step: Step, line: &[u8]) {
     match step {
         Step::Heading => put(line),

@@ -1,12 +1,9 @@
 // Replies written and read back, and slices read as replies.
+use crate::cases::case_of;
 use crate::words::put_asked;
 use crate::words::put_outcome;
-use commands::request::Load;
-use commands::request::Port;
 use commands::request::Request;
 use commands::request::Row;
-use commands::request::Signal;
-use commands::request::Store;
 use harl::message::Answered;
 use harl::message::read_reply;
 use harl::message::write_reply;
@@ -17,103 +14,88 @@ use print::put;
 use print::put_number;
 use print::put_slice;
 use print::put_written;
-use text::scan::find;
 
-// What a reply carries, and the request that it answers with its station.
-struct Reply(Outcome, u8, Request);
+// What a reply carries, and the letter of the request that it answers.
+struct Reply(Outcome, u8);
 
-// A request with its station.
-struct Case(u8, Request);
-
-const LNT_5: Request = Request::Load(Load::Timer(5));
-
-const LNT_16: Request = Request::Load(Load::Timer(16));
-
-const SNT: Request = Request::Store(Store::Timer(0, 0));
-
-const SNT_1000: Request = Request::Store(Store::Timer(0, 1000));
-
-// Reads a slice as the reply to a request.
-fn read(slice: &[u8], station: u8, request: Request) {
+// Reads a slice as the reply to the request of a letter.
+pub fn read(letter: u8, slice: &[u8]) {
+    let case = case_of(letter);
+    let request = case.1;
     put(b"reply ");
     put_slice(slice);
-    put_asked(b" to ", station, request);
-    let answered = read_reply(slice, station, request);
+    put_asked(b" to ", case.0, request);
+    let answered = read_reply(slice, case.0, request);
     match answered {
         Answered::Accepted(outcome) => {
-            put(b": 00 ");
-            put_outcome(outcome);
+            put_outcome(b": 00 ", outcome);
             put(b"\n");
         }
         Answered::Refused(number) => put_number(number),
     }
 }
 
-// Writes a reply into an area that is filled with AAh, and returns its length.
-fn write_into(area: &mut [u8], outcome: Outcome, station: u8, request: Request) -> usize {
-    put(b"reply written ");
-    put_outcome(outcome);
-    put_asked(b" to ", station, request);
-    let sent = write_reply(area, station, request, outcome);
+// Writes a reply into an area that is filled with AAh. One that is written is read back.
+fn write(area: &mut [u8], outcome: Outcome, letter: u8) {
+    let case = case_of(letter);
+    let request = case.1;
+    put_outcome(b"reply written ", outcome);
+    put_asked(b" to ", case.0, request);
+    let sent = write_reply(area, case.0, request, outcome);
     put_written(sent.number, sent.length, b", nothing", area);
     put(b"\n");
-    sent.length
-}
-
-fn filled() -> [u8; 64] {
-    [0xaa; 64]
-}
-
-// A reply that is written is read back.
-fn write(outcome: Outcome, station: u8, request: Request) {
-    let mut area = filled();
-    let n = write_into(&mut area, outcome, station, request);
-    if 0 < n {
-        read(front(&area, n), station, request);
+    if 0 < sent.length {
+        read(letter, front(area, sent.length));
     }
 }
 
-fn data(held: Data, station: u8, load: Load) -> Reply {
-    Reply(Outcome::Data(held), station, Request::Load(load))
+fn data(held: Data, letter: u8) -> Reply {
+    Reply(Outcome::Data(held), letter)
 }
 
-fn status(n: u8, station: u8, request: Request) -> Reply {
-    Reply(Outcome::Status(n), station, request)
+fn status(n: u8, letter: u8) -> Reply {
+    Reply(Outcome::Status(n), letter)
 }
 
 // The replies that are written.
 fn reply_of(k: usize) -> Reply {
     match k {
         // Data of each kind.
-        0 => data(Data::Timer(999), 1, Load::Timer(5)),
-        1 => data(Data::Register(42), 2, Load::Register(15)),
-        2 => data(Data::Row(Row { x: -5, y: 999999 }), 3, Load::Row(99)),
-        3 => data(Data::Signal(1), 4, Load::Input(Signal(255))),
-        4 => data(Data::Port(255), 5, Load::OutputPort(Port(31))),
+        0 => data(Data::Timer(999), b'I'),
+        1 => data(Data::Register(42), b'J'),
+        2 => data(Data::Row(Row { x: -5, y: 999999 }), b'K'),
+        3 => data(Data::Signal(1), b'L'),
+        4 => data(Data::Port(255), b'M'),
         // Statuses, the last of them P2's.
-        5 => status(5, 1, LNT_5),
-        6 => status(5, 1, SNT),
-        7 => status(0, 2, Request::Store(Store::Register(63, 42))),
+        5 => status(5, b'I'),
+        6 => status(5, b'N'),
+        7 => status(0, b'A'),
         // Check 12 of what a reply carries: data of another kind or out of range, data for an SN, a status
         // above 99.
-        8 => data(Data::Register(5), 1, Load::Timer(5)),
-        9 => data(Data::Timer(1000), 1, Load::Timer(5)),
-        10 => Reply(Outcome::Data(Data::Timer(0)), 1, SNT),
-        11 => status(100, 1, LNT_5),
+        8 => data(Data::Register(5), b'I'),
+        9 => data(Data::Timer(1000), b'I'),
+        10 => data(Data::Timer(0), b'N'),
+        11 => status(100, b'I'),
         // Checks 7, 11 and 12 of the request come before.
-        12 => status(100, 0, LNT_16),
-        13 => status(100, 1, LNT_16),
-        _ => status(0, 1, SNT_1000),
+        12 => status(100, b'B'),
+        13 => status(100, b'D'),
+        14 => status(0, b'G'),
+        // Check 7 refuses this.
+        _ => data(Data::Timer(999), b'O'),
     }
+}
+
+fn write_reply_of(area: &mut [u8], k: usize) {
+    let reply = reply_of(k);
+    let outcome = reply.0;
+    write(area, outcome, reply.1);
 }
 
 pub fn typed() {
     let mut k = 0;
-    while k < 15 {
-        let case = reply_of(k);
-        let outcome = case.0;
-        let request = case.2;
-        write(outcome, case.1, request);
+    while k < 16 {
+        let mut area = [0xaa; 64];
+        write_reply_of(&mut area, k);
         k += 1;
     }
 }
@@ -121,58 +103,6 @@ pub fn typed() {
 // An area of 63 bytes is refused before the station is.
 pub fn written_to_63_bytes() {
     let mut area = [0xaa; 63];
-    write_into(&mut area, Outcome::Data(Data::Timer(999)), 1, LNT_5);
-    write_into(&mut area, Outcome::Data(Data::Timer(999)), 0, LNT_5);
-}
-
-// A request that a reply is read for: one that is refused, or not.
-fn asked_of(digit: u8) -> Case {
-    match digit {
-        b'0' => Case(0, LNT_16),
-        b'1' => Case(1, LNT_16),
-        b'2' => Case(1, SNT_1000),
-        b'3' => Case(1, LNT_5),
-        _ => Case(1, SNT),
-    }
-}
-
-// Reads what follows the digit of asked_of as a reply.
-fn read_line(line: &[u8]) {
-    if line.len() == 0 {
-        return;
-    }
-    let case = asked_of(line[0]);
-    let request = case.1;
-    read(&line[1..], case.0, request);
-}
-
-// Reads each line.
-fn read_each(lines: &[u8]) {
-    let mut at = 0;
-    while at < lines.len() {
-        let end = find(lines, at, b'\n');
-        read_line(&lines[at..end]);
-        at = end + 1;
-    }
-}
-
-// Checks 7, 11 and 12 of the request, which come before check 2 of the slice. Checks 2 and 5 of the slice, and
-// check 15: another station, data out of range or of a wrong form. The last is read: any two digits may follow
-// "E".
-pub fn refused() {
-    read_each(
-        b"0\n\
-          1\n\
-          2\n\
-          3\n\
-          3\x021 9.99\x03\x04\n\
-          3\x022 9.99\x03\x06\n\
-          3\x021 10.00\x03\x3d\n\
-          3\x021 x\x03\x6a\n\
-          3\x021 9.99 1\x03\x14\n\
-          3\x021 E5\x03\x62\n\
-          4\x021 E05\x03\x52\n\
-          4\x021 000\x03\x22\n\
-          3\x021 E09\x03\x5e\n",
-    );
+    write_reply_of(&mut area, 0);
+    write_reply_of(&mut area, 15);
 }

@@ -126,7 +126,9 @@ fn put_held(held: Data) {
     }
 }
 
-pub fn put_outcome(outcome: Outcome) {
+// A kind of line, and what a reply carries.
+pub fn put_outcome(what: &[u8], outcome: Outcome) {
+    put(what);
     match outcome {
         Outcome::Data(held) => put_held(held),
         Outcome::Status(n) => put_single(11, n as i32),

@@ -7,14 +7,6 @@ pub fn put(s: &[u8]) {
     io::write_all(STDOUT_FILENO, s);
 }
 
-// What stands before an answer: the kind of an example, and its name.
-pub fn put_label(kind: &[u8], name: &[u8]) {
-    put(kind);
-    put(b" ");
-    put(name);
-    put(b": ");
-}
-
 // In brackets, so that an empty text and a space at an end are seen.
 pub fn put_text(s: &[u8]) {
     put(b"[");
@@ -60,7 +52,7 @@ fn put_character(b: u8) {
     put(b">");
 }
 
-// The bytes of a slice as text.
+// The bytes of a slice as text; of none, that there are none.
 pub fn put_slice(s: &[u8]) {
     if s.len() == 0 {
         put(b"no bytes");
@@ -104,8 +96,15 @@ fn untouched(area: &[u8]) -> usize {
     n
 }
 
-// What a writer answered: its number, the bytes that it wrote or what is said of none, and how many bytes at
-// the end of the area are still AAh, with which it was filled.
+// How many bytes at the end of an area are still AAh, with which it was filled.
+pub fn put_untouched(area: &[u8]) {
+    put(b", ");
+    put_whole(untouched(area) as u64);
+    put(b" untouched");
+}
+
+// What a writer answered: its number, the bytes that it wrote or what is said of none, and what it left of the
+// area.
 pub fn put_written(number: u8, length: usize, none: &[u8], area: &[u8]) {
     put(b": ");
     put_two_digits(number);
@@ -115,9 +114,7 @@ pub fn put_written(number: u8, length: usize, none: &[u8], area: &[u8]) {
         put(b" ");
         put_bytes(front(area, length));
     }
-    put(b", ");
-    put_whole(untouched(area) as u64);
-    put(b" untouched");
+    put_untouched(area);
 }
 
 // The rest of a line that ends with a number of two digits.

@@ -1,10 +1,8 @@
 -- The frame has 7 bytes: what is written at each step, and its length, is computed.
 use native.Mathlib.Omega.{arith}
-use mathlib.Core.Path.{sym}
-use borrow.Author.Needs.{needs}
-use lib.Seq.{length-take-le}
 use Rattle.text.specs.Whole.{shortest, leading, digit}
-use Rattle.frame.specs.Frame.{opening, closing}
+use Rattle.frame.specs.Frame.{opening}
+use borrow.Author.Needs.{needs}
 use Rattle.examples.proofs.frames.written.Statement.{statement}
 use Rattle.examples.proofs.frames.written.Tie as tie
 
@@ -32,40 +30,32 @@ close-frame-requires : tie.Need-close-frame-requires
 unfolding opening shortest leading digit
 close-frame-requires c κs = omega arith
 
-slice-aggregate-line : tie.Need-slice-aggregate-line
-slice-aggregate-line c = search needs
+slice-aggregate-put : tie.Need-slice-aggregate-put
+slice-aggregate-put c = search needs
 
-slice-aggregate-line-2 : tie.Need-slice-aggregate-line-2
-slice-aggregate-line-2 c = search needs
+put-requires : tie.Need-put-requires
+put-requires c κs = search needs
 
-array-share-prefix-area : tie.Need-array-share-prefix-area
-unfolding opening closing shortest leading digit
-array-share-prefix-area c = omega arith
+slice-aggregate-front : tie.Need-slice-aggregate-front
+slice-aggregate-front c = search needs
 
-slice-aggregate-line-3 : tie.Need-slice-aggregate-line-3
-unfolding opening closing shortest leading digit
-slice-aggregate-line-3 c =
-    let f = c .before .before .before .before in
-    sym (length-take-le (f .close-frame .result) (f .close-frame .last .0) (omega arith))
+front-requires : tie.Need-front-requires
+front-requires c κs = search needs
 
-line-requires : tie.Need-line-requires
-line-requires c κs = search needs
+put-bytes-requires-2 : tie.Need-put-bytes-requires-2
+put-bytes-requires-2 c κs = search needs
 
-array-read-t29 : tie.Need-array-read-t29
-unfolding opening closing shortest leading digit
-array-read-t29 c = omega arith
+slice-aggregate-put-untouched : tie.Need-slice-aggregate-put-untouched
+slice-aggregate-put-untouched c = search needs
 
-slice-aggregate-line-4 : tie.Need-slice-aggregate-line-4
-slice-aggregate-line-4 c = search needs
+put-untouched-requires : tie.Need-put-untouched-requires
+put-untouched-requires c κs = search needs
 
-slice-aggregate-line-5 : tie.Need-slice-aggregate-line-5
-slice-aggregate-line-5 c = search needs
+slice-aggregate-put-2 : tie.Need-slice-aggregate-put-2
+slice-aggregate-put-2 c = search needs
 
-slice-aggregate-line-6 : tie.Need-slice-aggregate-line-6
-slice-aggregate-line-6 c = search needs
-
-line-requires-2 : tie.Need-line-requires-2
-line-requires-2 c κs = search needs
+put-requires-2 : tie.Need-put-requires-2
+put-requires-2 c κs = search needs
 
 returns : tie.Need-returns
 returns c = search needs
@@ -81,14 +71,13 @@ written-spec =
     put-bytes-requires
     slice-aggregate-close-frame
     close-frame-requires
-    slice-aggregate-line
-    slice-aggregate-line-2
-    array-share-prefix-area
-    slice-aggregate-line-3
-    line-requires
-    array-read-t29
-    slice-aggregate-line-4
-    slice-aggregate-line-5
-    slice-aggregate-line-6
-    line-requires-2
+    slice-aggregate-put
+    put-requires
+    slice-aggregate-front
+    front-requires
+    put-bytes-requires-2
+    slice-aggregate-put-untouched
+    put-untouched-requires
+    slice-aggregate-put-2
+    put-requires-2
     returns)

@@ -1,11 +1,9 @@
 -- What is written fits the area.
 use native.Mathlib.Omega.{arith}
-use mathlib.Core.Path.{sym}
-use borrow.Author.Needs.{needs}
-use lib.Seq.{length-take-le}
 use mir.Syntax.{w32}
 use mir.Val.{toZ, ofZ}
 use Rattle.text.proofs.Decimals.{text-short}
+use borrow.Author.Needs.{needs}
 use Rattle.examples.proofs.numbers.write_hundredths.Statement.{statement}
 use Rattle.examples.proofs.numbers.write_hundredths.Tie as tie
 
@@ -14,22 +12,38 @@ slice-aggregate-put-hundredths c = search needs
 
 put-hundredths-requires : tie.Need-put-hundredths-requires
 put-hundredths-requires c κs =
-    let s = c .before .before in
+    let s = c .before in
     omega (arith, text-short (toZ w32 (ofZ w32 (s .args .v))))
 
-slice-aggregate-line : tie.Need-slice-aggregate-line
-slice-aggregate-line c = search needs
+slice-aggregate-put : tie.Need-slice-aggregate-put
+slice-aggregate-put c = search needs
 
-array-share-prefix-area : tie.Need-array-share-prefix-area
-array-share-prefix-area c = omega (arith, text-short (toZ w32 (ofZ w32 (c .before .before .before .before .before .args .v))))
+put-requires : tie.Need-put-requires
+put-requires c κs = search needs
 
-slice-aggregate-line-2 : tie.Need-slice-aggregate-line-2
-slice-aggregate-line-2 c =
-    let p = c .before .before .before in
-    sym (length-take-le (p .put-hundredths .result) (p .put-hundredths .last .0) (omega (arith, text-short (toZ w32 (ofZ w32 (p .before .before .before .args .v))))))
+put-signed-requires : tie.Need-put-signed-requires
+put-signed-requires c κs = search needs
 
-line-requires : tie.Need-line-requires
-line-requires c κs = search needs
+slice-aggregate-put-2 : tie.Need-slice-aggregate-put-2
+slice-aggregate-put-2 c = search needs
+
+put-requires-2 : tie.Need-put-requires-2
+put-requires-2 c κs = search needs
+
+slice-aggregate-front : tie.Need-slice-aggregate-front
+slice-aggregate-front c = search needs
+
+front-requires : tie.Need-front-requires
+front-requires c κs = search needs
+
+put-text-requires : tie.Need-put-text-requires
+put-text-requires c κs = search needs
+
+slice-aggregate-put-3 : tie.Need-slice-aggregate-put-3
+slice-aggregate-put-3 c = search needs
+
+put-requires-3 : tie.Need-put-requires-3
+put-requires-3 c κs = search needs
 
 returns : tie.Need-returns
 returns c = search needs
@@ -40,8 +54,14 @@ write-hundredths-spec =
     (tie.spec
     slice-aggregate-put-hundredths
     put-hundredths-requires
-    slice-aggregate-line
-    array-share-prefix-area
-    slice-aggregate-line-2
-    line-requires
+    slice-aggregate-put
+    put-requires
+    put-signed-requires
+    slice-aggregate-put-2
+    put-requires-2
+    slice-aggregate-front
+    front-requires
+    put-text-requires
+    slice-aggregate-put-3
+    put-requires-3
     returns)

@@ -1,23 +1,23 @@
--- The invariant: k is at most the number of cases.
+-- The invariant: k is at most the number of replies.
 use Prim.Native.Nat.{_≤_, _-_}
 use borrow.Author.Needs.{needs}
 use Rattle.examples_harl.proofs.replies.typed.Statement.{statement}
 use Rattle.examples_harl.proofs.replies.typed.Tie as tie
 
 abbrev Inv-loop : tie.InvT-loop
-Inv-loop k₀ k = k ≤ 15
+Inv-loop k₀ k = k ≤ 16
 
 abbrev μ-loop : tie.MeasureT-loop
-μ-loop k₀ k = 15 - k
+μ-loop k₀ k = 16 - k
 
 loop-holds : tie.Need-loop-holds Inv-loop μ-loop
 loop-holds c = search needs
 
-reply-of-requires : tie.Need-reply-of-requires Inv-loop μ-loop
-reply-of-requires c κs = search needs
+slice-aggregate-write-reply-of : tie.Need-slice-aggregate-write-reply-of Inv-loop μ-loop
+slice-aggregate-write-reply-of c = search needs
 
-write-requires : tie.Need-write-requires Inv-loop μ-loop
-write-requires c κs = search needs
+write-reply-of-requires : tie.Need-write-reply-of-requires Inv-loop μ-loop
+write-reply-of-requires c κs = search needs
 
 add-k : tie.Need-add-k Inv-loop μ-loop
 add-k c = search needs
@@ -38,8 +38,8 @@ typed-spec =
     Inv-loop
     μ-loop
     loop-holds
-    reply-of-requires
-    write-requires
+    slice-aggregate-write-reply-of
+    write-reply-of-requires
     add-k
     loop-less
     loop-again

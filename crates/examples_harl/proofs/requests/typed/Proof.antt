@@ -1,26 +1,26 @@
--- The invariant: k is at most the number of cases.
+-- The invariant: the letter is at most the one after O.
 use Prim.Native.Nat.{_≤_, _-_}
 use borrow.Author.Needs.{needs}
 use Rattle.examples_harl.proofs.requests.typed.Statement.{statement}
 use Rattle.examples_harl.proofs.requests.typed.Tie as tie
 
 abbrev Inv-loop : tie.InvT-loop
-Inv-loop k₀ k = k ≤ 8
+Inv-loop letter₀ letter = letter ≤ 80
 
 abbrev μ-loop : tie.MeasureT-loop
-μ-loop k₀ k = 8 - k
+μ-loop letter₀ letter = 80 - letter
 
 loop-holds : tie.Need-loop-holds Inv-loop μ-loop
 loop-holds c = search needs
 
-case-of-requires : tie.Need-case-of-requires Inv-loop μ-loop
-case-of-requires c κs = search needs
+slice-aggregate-write-case : tie.Need-slice-aggregate-write-case Inv-loop μ-loop
+slice-aggregate-write-case c = search needs
 
-write-requires : tie.Need-write-requires Inv-loop μ-loop
-write-requires c κs = search needs
+write-case-requires : tie.Need-write-case-requires Inv-loop μ-loop
+write-case-requires c κs = search needs
 
-add-k : tie.Need-add-k Inv-loop μ-loop
-add-k c = search needs
+add-letter : tie.Need-add-letter Inv-loop μ-loop
+add-letter c = search needs
 
 loop-less : tie.Need-loop-less Inv-loop μ-loop
 loop-less c = search needs
@@ -38,9 +38,9 @@ typed-spec =
     Inv-loop
     μ-loop
     loop-holds
-    case-of-requires
-    write-requires
-    add-k
+    slice-aggregate-write-case
+    write-case-requires
+    add-letter
     loop-less
     loop-again
     returns)

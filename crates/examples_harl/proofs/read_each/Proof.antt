@@ -1,30 +1,21 @@
--- The invariant: at is within the frames.
-use Prim.Native.Nat.{_≤_, _-_}
+-- The invariant: at is at most one past the end.
+use Prim.Native.Nat.{_≤_, _-_, _+_}
 use borrow.Author.Needs.{needs}
 use lib.ListN.{length}
-use Rattle.examples_harl.proofs.requests.read_each.Statement.{statement}
-use Rattle.examples_harl.proofs.requests.read_each.Tie as tie
+use Rattle.examples_harl.proofs.read_each.Statement.{statement}
+use Rattle.examples_harl.proofs.read_each.Tie as tie
 
 abbrev Inv-loop : tie.InvT-loop
-Inv-loop frames at₀ at = at ≤ length frames
+Inv-loop lines at₀ at = at ≤ length lines + 1
 
 abbrev μ-loop : tie.MeasureT-loop
-μ-loop frames at₀ at = length frames - at
+μ-loop lines at₀ at = length lines + 1 - at
 
 loop-holds : tie.Need-loop-holds Inv-loop μ-loop
 loop-holds c = search needs
 
 find-requires : tie.Need-find-requires Inv-loop μ-loop
 find-requires c κs = search needs
-
-sub-if1 : tie.Need-sub-if1 Inv-loop μ-loop
-sub-if1 c = search needs
-
-returns : tie.Need-returns Inv-loop μ-loop
-returns c = search needs
-
-add-read : tie.Need-add-read Inv-loop μ-loop
-add-read c = search needs
 
 sub-read : tie.Need-sub-read Inv-loop μ-loop
 sub-read c = search needs
@@ -47,8 +38,8 @@ loop-less c = search needs
 loop-again : tie.Need-loop-again Inv-loop μ-loop
 loop-again c = search needs
 
-returns-2 : tie.Need-returns-2 Inv-loop μ-loop
-returns-2 c = search needs
+returns : tie.Need-returns Inv-loop μ-loop
+returns c = search needs
 
 pub read-each-spec : {M : Type 1} → statement M
 read-each-spec =
@@ -58,9 +49,6 @@ read-each-spec =
     μ-loop
     loop-holds
     find-requires
-    sub-if1
-    returns
-    add-read
     sub-read
     part-read-start
     part-read-end
@@ -68,4 +56,4 @@ read-each-spec =
     add-at
     loop-less
     loop-again
-    returns-2)
+    returns)

@@ -2,8 +2,8 @@
 use Prim.Native.Nat.{_≤_, _-_, _+_}
 use borrow.Author.Needs.{needs}
 use lib.ListN.{length}
-use Rattle.examples_harl.proofs.replies.read_each.Statement.{statement}
-use Rattle.examples_harl.proofs.replies.read_each.Tie as tie
+use Rattle.examples.proofs.read_each.Statement.{statement}
+use Rattle.examples.proofs.read_each.Tie as tie
 
 abbrev Inv-loop : tie.InvT-loop
 Inv-loop lines at₀ at = at ≤ length lines + 1
@@ -17,17 +17,17 @@ loop-holds c = search needs
 find-requires : tie.Need-find-requires Inv-loop μ-loop
 find-requires c κs = search needs
 
-sub-read-line : tie.Need-sub-read-line Inv-loop μ-loop
-sub-read-line c = search needs
+sub-read : tie.Need-sub-read Inv-loop μ-loop
+sub-read c = search needs
 
-part-read-line-start : tie.Need-part-read-line-start Inv-loop μ-loop
-part-read-line-start c = search needs
+part-read-start : tie.Need-part-read-start Inv-loop μ-loop
+part-read-start c = search needs
 
-part-read-line-end : tie.Need-part-read-line-end Inv-loop μ-loop
-part-read-line-end c = search needs
+part-read-end : tie.Need-part-read-end Inv-loop μ-loop
+part-read-end c = search needs
 
-read-line-requires : tie.Need-read-line-requires Inv-loop μ-loop
-read-line-requires c κs = search needs
+read-requires : tie.Need-read-requires Inv-loop μ-loop
+read-requires c κs = search needs
 
 add-at : tie.Need-add-at Inv-loop μ-loop
 add-at c = search needs
@@ -49,10 +49,10 @@ read-each-spec =
     μ-loop
     loop-holds
     find-requires
-    sub-read-line
-    part-read-line-start
-    part-read-line-end
-    read-line-requires
+    sub-read
+    part-read-start
+    part-read-end
+    read-requires
     add-at
     loop-less
     loop-again

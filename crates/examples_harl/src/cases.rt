@@ -1,0 +1,41 @@
+// The typed requests of the examples, each by a letter.
+use commands::request::Load;
+use commands::request::Port;
+use commands::request::Request;
+use commands::request::Signal;
+use commands::request::Store;
+
+// A request, and the station that it is for.
+pub struct Case(pub u8, pub Request);
+
+fn load(station: u8, load: Load) -> Case {
+    Case(station, Request::Load(load))
+}
+
+fn store(station: u8, store: Store) -> Case {
+    Case(station, Request::Store(store))
+}
+
+pub fn case_of(letter: u8) -> Case {
+    match letter {
+        // P2.
+        b'A' => store(2, Store::Register(63, 42)),
+        // Checks 7, 11 and 12 refuse these.
+        b'B' => load(0, Load::Timer(16)),
+        b'C' => load(100, Load::Timer(5)),
+        b'D' => load(1, Load::Timer(16)),
+        b'E' => load(1, Load::MemoryBit(Signal(255))),
+        b'F' => store(1, Store::OutputPort(Port(32), 256)),
+        b'G' => store(1, Store::Timer(0, 1000)),
+        b'H' => store(1, Store::Timer(0, -1)),
+        // Replies of each kind answer these.
+        b'I' => load(1, Load::Timer(5)),
+        b'J' => load(2, Load::Register(15)),
+        b'K' => load(3, Load::Row(99)),
+        b'L' => load(4, Load::Input(Signal(255))),
+        b'M' => load(5, Load::OutputPort(Port(31))),
+        b'N' => store(1, Store::Timer(0, 0)),
+        // Check 7 refuses this.
+        _ => load(0, Load::Timer(5)),
+    }
+}
