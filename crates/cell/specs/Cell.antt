@@ -30,7 +30,7 @@ boxAfter b line = cond (isCall line) (after b (callOf (sliceOf line))) b
 unfoldable pub roomAt : ℕ → ℕ
 roomAt at = cond (leb at 65404) at 0
 
--- one call answered: xs is the output before and ys after, r the next place, t the tables after
+-- one call answered: xs is the output before and ys after, r the index after the last byte, t the tables after
 pub record CallAnswered (b : Box) (slice xs : List ℕ) (at r : ℕ) (ys : List ℕ) (t : Tables) : Type 0 where
   -- the line of the model's answer was put
   pub answer-is : Put xs at (asLine (answer b (callOf slice))) r ys
@@ -45,5 +45,5 @@ pub record LineAnswered (b : Box) (line xs : List ℕ) (at r : ℕ) (ys : List �
   pub answer-is : Put xs (roomAt at) (lineAnswer b line) r ys
   -- the tables are those that the line leaves
   pub tables-are : t ≡ boxAfter b line .tables
-  -- the next place is within the output
+  -- the index after the last byte is within the output
   pub within : r ≤ 65536

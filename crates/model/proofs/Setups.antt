@@ -1,4 +1,4 @@
--- Laws about check 13 of setup: a turn of each of its loops, and what it says of the station numbers where it passes.
+-- Laws about check 13 of setup: a step of each of its loops, and what it says of the station numbers where it passes.
 use Prim.Native.Nat.{ℕ, zero, suc, _+_, _-_, _≤_, _<_}
 use mathlib.Core.Path.{_≡_, refl, sym, _∙_}
 use mathlib.Core.Bool.{Bool, true, false, cond, _&&_}

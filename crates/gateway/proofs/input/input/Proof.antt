@@ -1,4 +1,4 @@
--- Each way out is a decision of the model: three turn the call away, the last puts the byte.
+-- Each way out is a decision of the model: three refuse the call, the last puts the byte.
 use Prim.Native.Nat.{ℕ}
 use mathlib.Core.Path.{_≡_}
 use borrow.Author.Needs.{needs}
