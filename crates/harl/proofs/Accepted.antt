@@ -29,7 +29,7 @@ use Rattle.frame.specs.Fields.{fields}
 
 -- ---- the parts of a built request are judged as what it was built of
 
-zero-in : (k : Kind) → inRange k (pos 0) ≡ true
+pub zero-in : (k : Kind) → inRange k (pos 0) ≡ true
 unfolding inRange
 zero-in kind.Timer = refl
 zero-in kind.Register = refl

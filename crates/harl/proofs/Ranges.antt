@@ -13,12 +13,12 @@ use Rattle.commands.specs.declared.command.Rule.{Rule}
 use Rattle.commands.specs.declared.request.Row.{Row}
 use Rattle.harl.specs.Data.{limitsOf, inRange, allInRange, judge}
 
-and-left : (s t : Bool) → s && t ≡ true → s ≡ true
+pub and-left : (s t : Bool) → s && t ≡ true → s ≡ true
 and-left true t e = refl
 and-left false true e = e
 and-left false false e = e
 
-and-right : (s t : Bool) → s && t ≡ true → t ≡ true
+pub and-right : (s t : Bool) → s && t ≡ true → t ≡ true
 and-right true t e = e
 and-right false true e = refl
 and-right false false e = e

@@ -29,6 +29,7 @@ use Rattle.harl.specs.Body.{readBody}
 use Rattle.harl.specs.Reply.{contentOf, codeOf, dataFit, judgeOutcome, outcomeText}
 use Rattle.harl.specs.Message.{ruleFor, judgeAsked, fromStation, requestIn, readRequest, writeRequest, judgeReply, writeReply, readReply}
 use Rattle.harl.proofs.Laws.{Fitting}
+use Rattle.harl.proofs.Accepted.{zero-in}
 use Rattle.harl.proofs.Ranges.{in-nat, all-x, all-y, passed}
 use Rattle.harl.proofs.Texts.{check-passed}
 use Rattle.harl.proofs.Requests.{requests-read-back}
@@ -36,14 +37,6 @@ use Rattle.harl.proofs.Replies.{replies-read-back}
 use Rattle.tables.specs.Tables.{set2}
 
 -- ---- tests
-
-pub and-left : (a b : Bool) → a && b ≡ true → a ≡ true
-and-left true b e = refl
-and-left false b e = e
-
-pub and-right : (a b : Bool) → a && b ≡ true → b ≡ true
-and-right true b e = e
-and-right false b e = cc
 
 pub false-true : {A : Type 0} → false ≡ true → A
 false-true e = let z : _≡_ {A = ℕ} 0 1 = cc in absurd (omega arith)
@@ -92,14 +85,6 @@ module _ {A : Type 0} (P : A → Type 0) (d : A) where
       replicate-has (λ r. (m : ℕ) → P (getD r m d)) [] s j _ (λ m. replicate-has P d n m v p h) (λ m. h)
 
 -- ---- ranges
-
-pub zero-in : (c : Kind) → inRange c (pos 0) ≡ true
-unfolding inRange
-zero-in kind.Timer = refl
-zero-in kind.Register = refl
-zero-in kind.Row = refl
-zero-in kind.Signal = refl
-zero-in kind.Port = refl
 
 -- from 0 to m
 up-to : (m v : ℕ) → v ≤ m → not (ltZ (pos v) (pos 0)) && not (ltZ (pos m) (pos v)) ≡ true

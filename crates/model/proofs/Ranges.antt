@@ -21,15 +21,15 @@ use Rattle.harl.specs.declared.body.Judged.the-variants as judged
 use Rattle.harl.specs.Data.{inRange}
 use Rattle.harl.specs.Body.{readBody}
 use Rattle.harl.specs.Message.{judgeRequest}
-use Rattle.harl.proofs.Ranges.{in-size}
-use Rattle.harl.proofs.Accepted.{accepted-in-range}
+use Rattle.harl.proofs.Ranges.{in-size, and-left, and-right}
+use Rattle.harl.proofs.Accepted.{accepted-in-range, zero-in}
 use Rattle.tables.specs.Bits.{withBit}
 use Rattle.tables.specs.Tables.{Tables, StoreInRange, set2, stored, zeros}
 use Rattle.tables.proofs.Bits.{with-bit-byte}
 use Rattle.model.specs.Call.{Call, serve, input}
 use Rattle.model.specs.Box.{Box, setup, Slot, nowhere, at, slotOf, Decision, unanswered, refused, asked, inputSet, decideBody, decideSlot, decide, performTables, perform, after, run}
 use Rattle.model.specs.Ranges.{InRange, bringsByte, bringBytes, AlwaysInRange}
-use Rattle.model.proofs.Laws.{and-left, and-right, cond-has, Every, every-set, every-equal, zero-in, port-in, natural-in, data-in}
+use Rattle.model.proofs.Laws.{cond-has, Every, every-set, every-equal, port-in, natural-in, data-in}
 
 -- ---- a store
 

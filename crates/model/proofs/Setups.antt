@@ -9,8 +9,8 @@ use native.Mathlib.Numerals.{add-one}
 use borrow.Author.Tests.{eq-eqb, ne-eqb, le-leb, lt-leb, leb-true}
 use lib.ListN.{length, getD, replicate}
 use lib.Dec.{leb}
+use Rattle.harl.proofs.Ranges.{and-left, and-right}
 use Rattle.model.specs.Box.{lacks, distinct, small, setupNumber, setup}
-use Rattle.model.proofs.Laws.{and-left, and-right}
 
 -- the slots left, from slot i on
 left : (i : ℕ) → i < 4 → 4 - i ≡ suc (4 - suc i)

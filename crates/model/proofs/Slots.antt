@@ -13,10 +13,10 @@ use Rattle.frame.specs.Frame.{Reading, readFrame}
 use Rattle.harl.specs.declared.body.Judged.{Judged}
 use Rattle.harl.specs.declared.body.Judged.the-variants as judged
 use Rattle.harl.specs.Body.{readBody}
+use Rattle.harl.proofs.Ranges.{and-left, and-right}
 use Rattle.model.specs.Call.{Call, serve, input}
 use Rattle.model.specs.Box.{lacks, distinct, small, setupNumber, setup, Slot, nowhere, at, scan, slotOf, Decision, unanswered, refused, asked, inputSet, decideBody, decideSlot, decideFrame, decide}
 use Rattle.model.specs.Addressed.{Fitted, isFor}
-use Rattle.model.proofs.Laws.{and-left, and-right}
 
 -- ---- no nonzero station stands twice
 
