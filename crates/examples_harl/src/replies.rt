@@ -2,7 +2,6 @@
 use crate::cases::case_of;
 use crate::words::put_asked;
 use crate::words::put_outcome;
-use commands::request::Request;
 use commands::request::Row;
 use harl::message::Answered;
 use harl::message::read_reply;

@@ -1,19 +1,28 @@
--- Laws about fields, which are cut by the place of the next SP, and about what a reader hands back.
-use Prim.Native.Nat.{ℕ, zero, suc, _+_, _≤_, _<_}
+-- Laws about parts of a slice, about fields, which are cut by the place of the next SP, and about what a reader hands
+-- back.
+use Prim.Native.Nat.{ℕ, zero, suc, _+_, _-_, _≤_, _<_}
 use mathlib.Core.Path.{_≡_, refl, ap, _∙_}
 use mathlib.Core.Bool.{Bool, true, false, cond}
 use mathlib.Core.List.{List, [], _∷_, _++_, append-nil}
+use native.Mathlib.Nat.{sub-zero, zero-sub, suc-sub-suc}
 use native.Mathlib.Omega.{arith}
 use native.Mathlib.Numerals.{add-one}
-use borrow.Author.Tests.{eqb-true, eqb-false}
 use lib.Arith.{lt-of-le-ne}
-use lib.ListN.{length, getD, take, drop, length-append}
-use lib.Seq.{drop-drop, drop-length, take-all, take-length, take-append-seam, drop-append-add}
+use lib.ListN.{length, take, drop, length-append}
+use lib.Seq.{slice, take-nil, take-all, take-length, take-append-seam, drop-append-add}
 use lib.Dec.{eqb}
 use Rattle.text.specs.Scan.{until, before}
 use Rattle.text.proofs.Laws.{Skips, skips-stop}
-use Rattle.frame.specs.Fields.{first, more, fields, startOf}
+use Rattle.frame.specs.Fields.{first, more, fields}
 use Rattle.frame.specs.Frame.{Reading, Read}
+
+-- ---- a part of a slice, cut at its start or at its end first
+
+pub part-is : (a e : ℕ) (s : List ℕ) → take (e - a) (drop a s) ≡ slice a e s
+part-is zero e s = ap (λ (n : ℕ). take n s) (sub-zero e)
+part-is (suc a) zero s = rw (zero-sub (suc a))
+part-is (suc a) (suc e) [] = take-nil (suc e - suc a)
+part-is (suc a) (suc e) (b ∷ s) = rw (suc-sub-suc e a) (part-is a e s)
 
 -- ---- a search stays inside
 
@@ -90,19 +99,6 @@ fields-cons us vs p =
 pub fields-one : (us : List ℕ) → Skips (λ b. eqb b 32) us → fields us ≡ us ∷ []
 unfolding until
 fields-one us p = fields-last us (length us) (omega (arith, p [], ap (before 32) (append-nil us))) refl
-
--- ---- field k is what stands from its start to the next SP
-
-pub field-from : (k : ℕ) (s : List ℕ) → first (drop (startOf s k) s) ≡ getD (fields s) k []
-unfolding startOf fields first
-field-from zero s = refl
-field-from (suc k) s = go (eqb (before 32 s) (length s)) refl (field-from k (drop (before 32 s + 1) s))
-  where
-    go : (t : Bool) → eqb (before 32 s) (length s) ≡ t → first (drop (startOf (drop (before 32 s + 1) s) k) (drop (before 32 s + 1) s)) ≡ getD (fields (drop (before 32 s + 1) s)) k [] → first (drop (cond t (length s) (before 32 s + 1 + startOf (drop (before 32 s + 1) s) k)) s) ≡ getD (more s) k []
-    go true e ih = rw (drop-length s, more-none s (omega (arith, eqb-true (before 32 s) (length s) e)))
-    go false e ih =
-        let h : before 32 s < length s = lt-of-le-ne (until-within (λ b. eqb b 32) s) (eqb-false _ _ e) in
-        rw (← drop-drop (startOf (drop (before 32 s + 1) s) k) (before 32 s + 1) s, more-found s h) (ih ∙ ap (λ (i : ℕ). getD (fields (drop i s)) k []) (add-one (before 32 s)))
 
 -- ---- three answers that are those of a reading
 

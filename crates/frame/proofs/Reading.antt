@@ -9,7 +9,7 @@ use native.Mathlib.Omega.{arith}
 use borrow.Author.Tests.{le-ltb, eq-eqb, ne-eqb}
 use lib.Dec.{T, eqb, eqb→eq}
 use lib.ListN.{length, length-append}
-use lib.Seq.{getD-at, getD-append-add, take-at, take-append-seam, take-append-add, drop-append-add}
+use lib.Seq.{getD-append-seam, getD-append-add, take-append-seam, take-append-add, drop-append-add}
 use Rattle.text.specs.Scan.{until}
 use Rattle.text.specs.Whole.{readWhole, digitsOnto, shortest, leading, digit}
 use Rattle.frame.specs.Checksum.{lrcOf}
@@ -96,18 +96,18 @@ frame-back t h k =
     let e : List ℕ = 3 ∷ c ∷ [] in
     let s : List ℕ = 2 ∷ (t ++ e) in
     let n : length s ≡ length t + 3 = omega (arith, length-append t e) in
-    let last : length s - 1 ≡ suc (length t) + 1 = omega arith in
-    let summed : length s - 1 - 1 ≡ length t + 1 = omega arith in
+    let end : length s - 2 ≡ suc (length t) = omega arith in
+    let last : length s - 1 ≡ suc (length t + 1) = omega arith in
     rw (
       le-ltb (length s) 6 (omega arith),
       le-ltb 255 (length s) (omega arith),
-      getD-at (2 ∷ t) 3 (c ∷ []) 0 (length s - 2) (omega arith),
-      summed,
-      take-append-add t e 1,
+      end,
+      getD-append-seam t 3 (c ∷ []) 0,
       last,
-      getD-append-add (2 ∷ t) e 1 0,
+      take-append-add t e 1,
+      getD-append-add t e 1 0,
       eq-eqb c c refl,
-      take-at t e (length s - 2 - 1) (omega arith),
+      take-append-seam t e,
     )
 
 -- a frame is STX, the station, SP, the body, and the closing of those that follow STX

@@ -4,6 +4,7 @@ use mathlib.Core.Path.{_≡_}
 use mathlib.Core.Bool.{Bool, cond, not, _||_}
 use mathlib.Core.List.{List, [], _∷_, _++_}
 use lib.ListN.{length, getD, take, drop}
+use lib.Seq.{slice}
 use lib.Dec.{ltb, eqb}
 use Rattle.text.specs.Scan.{until, before}
 use Rattle.text.specs.Whole.{readWhole, shortest}
@@ -24,12 +25,8 @@ pub record Read (o : Reading) (number station : ℕ) (body : List ℕ) : Type 0 
   pub body-is : body ≡ o .body
 
 -- a refusal hands back station 0 and an empty part
-abbrev pub refused : ℕ → Reading
-refused n = record { number = n; station = 0; body = [] }
-
--- the bytes from index a up to, not including, index e
-abbrev pub between : ℕ → ℕ → List ℕ → List ℕ
-between a e s = take (e - a) (drop a s)
+abbrev pub refusedFrame : ℕ → Reading
+refusedFrame n = record { number = n; station = 0; body = [] }
 
 -- a byte outside 20h..7Eh
 abbrev pub isStray : ℕ → Bool
@@ -50,23 +47,23 @@ stationOf t = cond (eqb (getD t 0 0) 48) 0 (upTo99 (readWhole t))
 
 -- the station was read: 0 is none
 abbrev pub withStation : ℕ → List ℕ → Reading
-withStation v body = cond (eqb v 0) (refused 7) (record { number = 0; station = v; body = body })
+withStation v body = cond (eqb v 0) (refusedFrame 7) (record { number = 0; station = v; body = body })
 
 -- between STX and ETX: 6 STRAY, 7 STATION
 unfoldable pub readInner : List ℕ → Reading
 readInner t =
-    cond (ltb (stray t) (length t)) (refused 6)
-    (cond (eqb (before 32 t) (length t)) (refused 7)
+    cond (ltb (stray t) (length t)) (refusedFrame 6)
+    (cond (eqb (before 32 t) (length t)) (refusedFrame 7)
     (withStation (stationOf (take (before 32 t) t)) (drop (before 32 t + 1) t)))
 
 -- 2 LENGTH, 3 START, 4 END, 5 LRC, and then what stands between STX and ETX
 unfoldable pub readFrame : List ℕ → Reading
 readFrame s =
-    cond (ltb (length s) 6 || ltb 255 (length s)) (refused 2)
-    (cond (not (eqb (getD s 0 0) 2)) (refused 3)
-    (cond (not (eqb (getD s (length s - 2) 0) 3)) (refused 4)
-    (cond (not (eqb (getD s (length s - 1) 0) (lrcOf (between 1 (length s - 1) s)))) (refused 5)
-    (readInner (between 1 (length s - 2) s)))))
+    cond (ltb (length s) 6 || ltb 255 (length s)) (refusedFrame 2)
+    (cond (not (eqb (getD s 0 0) 2)) (refusedFrame 3)
+    (cond (not (eqb (getD s (length s - 2) 0) 3)) (refusedFrame 4)
+    (cond (not (eqb (getD s (length s - 1) 0) (lrcOf (slice 1 (length s - 1) s)))) (refusedFrame 5)
+    (readInner (slice 1 (length s - 2) s)))))
 
 -- STX, the station, SP
 unfoldable pub opening : ℕ → List ℕ

@@ -4,13 +4,10 @@ use mathlib.Core.Path.{_≡_}
 use mathlib.Core.List.{List}
 use lib.ListN.{length}
 use Rattle.harl.specs.declared.message.Sent.{Sent}
-use Rattle.harl.specs.Body.{readBody}
 use Rattle.harl.specs.Message.{Message, Wrote}
 use Rattle.tables.specs.Tables.{Tables}
-use Rattle.gateway.specs.declared.serve.Found.{Found}
-use Rattle.gateway.specs.declared.serve.Found.the-variants as found
 use Rattle.model.specs.Call.{serve, input, Answer}
-use Rattle.model.specs.Box.{Box, Slot, nowhere, at, slotOf, Decision, decideBody, performTables, respond, setupNumber, setup, after, answer}
+use Rattle.model.specs.Box.{Box, setupNumber, setup, after, answer}
 
 -- the box that lent stations and tables are
 abbrev pub box : List ℕ → Tables → Box
@@ -35,20 +32,3 @@ written a = record { number = a .number; bytes = a .reply }
 pub record Served (b : Box) (slice before : List ℕ) (sent : Sent) (t : Tables) (later : List ℕ) : Type 0 where
   pub answer-is : Wrote (written (answer b (serve slice (length before)))) before sent later
   pub tables-are : t ≡ after b (serve slice (length before)) .tables
-
--- ---- what is used on the way
-
-abbrev pub asFound : Slot → Found
-asFound nowhere = found.Nowhere
-asFound (at k) = found.At k
-
-abbrev pub foundIn : List ℕ → ℕ → Found
-foundIn st s = asFound (slotOf st s)
-
--- what is decided of a body that is addressed to slot k
-abbrev pub decided : ℕ → ℕ → List ℕ → Decision
-decided k s body = decideBody k s (readBody body)
-
-pub record BodyServed (k s : ℕ) (body : List ℕ) (t : Tables) (before : List ℕ) (sent : Sent) (t′ : Tables) (later : List ℕ) : Type 0 where
-  pub answer-is : (st : List ℕ) → Wrote (written (respond (box st t) (decided k s body))) before sent later
-  pub tables-are : t′ ≡ performTables t (decided k s body)

@@ -14,10 +14,10 @@ ghost use Prim.Native.Nat.{_≤_, _<_};
 ghost use lib.ListN.{length};
 ghost use Rattle.text.specs.Put.{Put};
 ghost use Rattle.frame.specs.Frame.{frameOf};
-ghost use mathlib.Core.Bool.{true};
-ghost use Rattle.harl.specs.Reply.{outcomeText, refusalText};
+ghost use Rattle.harl.specs.Reply.{performedText, refusalText};
 ghost use Rattle.tables.specs.Tables.{Tables, tables};
-ghost use Rattle.gateway.specs.Entries.{Served, BodyServed, foundIn, box};
+ghost use Rattle.gateway.specs.Entries.{Served, box};
+ghost use Rattle.gateway.specs.Serving.{BodyServed, foundIn};
 
 // Where a station is.
 pub enum Found {
@@ -45,7 +45,7 @@ fn find_slot(stations: &[u8; 4], station: u8) -> Found
 // Writes the reply to a request that was performed: data, or the status of an SN.
 fn put_reply(reply: &mut [u8], station: u8, outcome: Outcome) -> usize
     requires { ⌜ 64 ≤ length (now reply) ⌝ }
-    ensures { λ r. ⌜ Put (now (reply .entry)) 0 (frameOf station (outcomeText true outcome)) r (now (reply .exit)) ⌝ }
+    ensures { λ r. ⌜ Put (now (reply .entry)) 0 (frameOf station (performedText outcome)) r (now (reply .exit)) ⌝ }
 {
     let at = open_frame(reply, station);
     let end = put_outcome(reply, at, true, outcome);

@@ -22,7 +22,7 @@ use Rattle.harl.specs.declared.body.Shape.{Shape}
 use Rattle.harl.specs.declared.body.Shape.the-variants as shape
 use Rattle.harl.specs.declared.body.Judged.the-variants.{Accepted, Refused}
 use Rattle.harl.specs.Data.{inRange, allInRange, judge}
-use Rattle.harl.specs.Body.{readShape, decided, shaped, afterName, ofFields, readBody}
+use Rattle.harl.specs.Body.{readShape, requestOrRefusal, shaped, afterName, ofFields, readBody}
 use Rattle.harl.specs.Message.{judgeRequest}
 use Rattle.harl.proofs.Ranges.{passed, all-x}
 use Rattle.frame.specs.Fields.{fields}
@@ -76,9 +76,9 @@ built Snbd n row h = valued (ruleOf Snbd) n row h
 never : {A : Type 0} {n : ℕ} {t : Bool} {r : Request} → Refused n t ≡ Accepted r → A
 never e = let z : _≡_ {A = ℕ} 0 1 = cc in absurd (omega arith)
 
-decided-in-range : (c : Command) (n : ℕ) (row : Row) (r : Request) → decided c n row ≡ Accepted r → judgeRequest r ≡ 0
-unfolding decided
-decided-in-range c n row r e = go (eqb (judge (ruleOf c) n row) 0) refl e
+request-in-range : (c : Command) (n : ℕ) (row : Row) (r : Request) → requestOrRefusal c n row ≡ Accepted r → judgeRequest r ≡ 0
+unfolding requestOrRefusal
+request-in-range c n row r e = go (eqb (judge (ruleOf c) n row) 0) refl e
   where
     go : (t : Bool) → eqb (judge (ruleOf c) n row) 0 ≡ t → cond t (Accepted (builds c n row)) (Refused (judge (ruleOf c) n row) (ruleOf c .store)) ≡ Accepted r → judgeRequest r ≡ 0
     go true p q =
@@ -87,7 +87,7 @@ decided-in-range c n row r e = go (eqb (judge (ruleOf c) n row) 0) refl e
     go false p q = never q
 
 shaped-in-range : (c : Command) (s : Shape) (r : Request) → shaped c s ≡ Accepted r → judgeRequest r ≡ 0
-shaped-in-range c (shape.Of n row) r e = decided-in-range c n row r e
+shaped-in-range c (shape.Of n row) r e = request-in-range c n row r e
 shaped-in-range c shape.Malformed r e = never e
 
 named-in-range : (w : Named) (fs : List (List ℕ)) (r : Request) → afterName w fs ≡ Accepted r → judgeRequest r ≡ 0

@@ -20,7 +20,7 @@ use Rattle.harl.specs.declared.reply.Outcome.{Outcome}
 use Rattle.harl.specs.declared.reply.Outcome.the-variants as outcome
 use Rattle.commands.specs.Command.{nameOf, ruleOf}
 use Rattle.harl.specs.Body.{dataPart, bodyText}
-use Rattle.harl.specs.Reply.{contentOf, unknownText, statusText, refusalText, outcomeText}
+use Rattle.harl.specs.Reply.{contentOf, unknownText, statusText, refusalText, performedText, outcomeText}
 use Rattle.harl.specs.Message.{Wrote}
 use Rattle.harl.proofs.Texts.{data-length}
 
@@ -77,6 +77,12 @@ outcome-length store (outcome.Data d) = data-length (contentOf d .kind) (content
 outcome-length store (outcome.Status n) =
     let l = status-length store n in
     (l .0, omega arith)
+
+-- what replies to a request that was performed is its outcome as that of an SN, since data have one form
+pub performed-text : (o : Outcome) → outcomeText true o ≡ performedText o
+unfolding outcomeText
+performed-text (outcome.Data d) = refl
+performed-text (outcome.Status n) = refl
 
 -- the frame of such a body fits in the area that a writer asks for
 pub frame-fits : (station : ℕ) (body : List ℕ) → length body ≤ 27 → length (frameOf station body) ≤ 64

@@ -1,4 +1,4 @@
--- What data that answer a command are, and the number of what is read.
+-- What data that answer a command are, and byte strings that compare as the same.
 use Prim.Native.Nat.{ℕ, zero, suc}
 use mathlib.Core.Path.{_≡_, refl, sym, ap, ap₂, _∙_}
 use mathlib.Core.Bool.{Bool, true, false, cond, _&&_, and-eq-true-iff}
@@ -6,19 +6,7 @@ use mathlib.Core.List.{List, [], _∷_}
 use native.Mathlib.Omega.{arith}
 use borrow.Author.Tests.{eqb-true}
 use lib.Dec.{eqb}
-use Rattle.frame.specs.Frame.{readFrame}
 use Rattle.commands.specs.Command.{same}
-use Rattle.commands.specs.declared.request.Request.{Request}
-use Rattle.harl.specs.declared.body.Judged.{Judged}
-use Rattle.harl.specs.declared.body.Judged.the-variants as judged
-use Rattle.harl.specs.declared.reply.Carried.{Carried}
-use Rattle.harl.specs.declared.reply.Carried.the-variants as carried
-use Rattle.harl.specs.declared.message.Asked.{Asked}
-use Rattle.harl.specs.declared.message.Asked.the-variants as asked
-use Rattle.harl.specs.declared.message.Answered.{Answered}
-use Rattle.harl.specs.declared.message.Answered.the-variants as answered
-use Rattle.harl.specs.Message.{askedNumber, answeredNumber, judgedNumber, carriedNumber, ruleFor, judgeAsked, fromStation, readRequest, RequestRead, answer, readReply, ReplyRead}
-use Rattle.harl.specs.Body.{readBody}
 use Rattle.commands.specs.declared.command.Kind.{Kind}
 use Rattle.commands.specs.declared.command.Kind.the-variants.{Timer, Register, Row, Signal, Port}
 use Rattle.commands.specs.declared.command.Rule.{Rule}
@@ -26,7 +14,7 @@ use Rattle.harl.specs.declared.reply.Content.{Content}
 use Rattle.harl.specs.declared.reply.Data.{Data}
 use Rattle.harl.specs.declared.reply.Outcome.the-variants as outcome
 use Rattle.harl.specs.Data.{allInRange}
-use Rattle.harl.specs.Reply.{contentOf, codeOf, dataFit, judgeOutcome, readOutcome}
+use Rattle.harl.specs.Reply.{contentOf, codeOf, dataFit, judgeOutcome}
 
 -- a kind is known by its number
 pub kind-is : (k j : Kind) → codeOf k ≡ codeOf j → k ≡ j
@@ -71,31 +59,3 @@ same-is (x ∷ xs) [] e = let z : _≡_ {A = ℕ} 0 1 = cc in absurd (omega arit
 same-is (x ∷ xs) (y ∷ ys) e =
     let p = and-eq-true-iff (eqb x y) (same xs ys) .0 e in
     ap₂ _∷_ (eqb-true x y (p .0)) (same-is xs ys (p .1))
-
--- ---- the number of a slice that was read
-
-pub request-read : {s : List ℕ} {a : Asked} → a ≡ readRequest s → RequestRead s a
-unfolding readRequest
-request-read {s} {a} e = record { number-is = ap askedNumber e ∙ go (eqb (readFrame s .number) 0) (readFrame s .station) (readFrame s .number) (readBody (readFrame s .body)); answer-is = e }
-  where
-    go : (t : Bool) (station n : ℕ) (j : Judged) → askedNumber (cond t (fromStation station j) (asked.Refused n)) ≡ cond t (judgedNumber j) n
-    go true station n (judged.Accepted r) = refl
-    go true station n (judged.Refused m store) = refl
-    go false station n j = refl
-
-pub reply-read : {s : List ℕ} {station : ℕ} {r : Request} {a : Answered} → a ≡ readReply s station r → ReplyRead s station r a
-unfolding readReply
-reply-read {s} {station} {r} e =
-    let o = readFrame s in
-    let j = judgeAsked station r in
-    record {
-      number-is = ap answeredNumber e ∙ go (eqb j 0) (eqb (o .number) 0) (eqb (o .station) station) (o .number) j (readOutcome (ruleFor r) (o .body));
-      answer-is = e;
-    }
-  where
-    go : (t u v : Bool) (n m : ℕ) (c : Carried) → answeredNumber (cond t (cond u (cond v (answer c) (answered.Refused 15)) (answered.Refused n)) (answered.Refused m)) ≡ cond t (cond u (cond v (carriedNumber c) 15) n) m
-    go true true true n m (carried.Outcome o) = refl
-    go true true true n m carried.Nothing = refl
-    go true true false n m c = refl
-    go true false v n m c = refl
-    go false u v n m c = refl

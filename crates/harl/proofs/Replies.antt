@@ -8,7 +8,7 @@ use borrow.Author.Tests.{ne-eqb, eqb-true, ltb-false, eqb-false, eq-eqb}
 use lib.Dec.{ltb, eqb}
 use lib.ListN.{getD}
 use Rattle.text.specs.Scan.{until, before}
-use Rattle.text.specs.Whole.{digit}
+use Rattle.text.specs.Whole.{digit, twoDigits}
 use Rattle.text.proofs.Laws.{Skips, skips-cons, not-first}
 use Rattle.text.proofs.Digits.{read-two, two-skips}
 use Rattle.frame.specs.Frame.{isStray}
@@ -20,10 +20,9 @@ use Rattle.harl.specs.declared.reply.Data.{Data}
 use Rattle.harl.specs.declared.reply.Data.the-variants as held
 use Rattle.harl.specs.declared.reply.Outcome.{Outcome}
 use Rattle.harl.specs.declared.reply.Outcome.the-variants as outcome
-use Rattle.harl.specs.declared.reply.Carried.{Carried}
 use Rattle.harl.specs.declared.reply.Carried.the-variants as carried
 use Rattle.harl.specs.Data.{allInRange, dataText}
-use Rattle.harl.specs.Reply.{contentOf, dataOf, dataFit, judgeOutcome, twoDigits, statusText, contentText, outcomeText, asStatus, readStatus, readLoadOutcome, readOutcome}
+use Rattle.harl.specs.Reply.{contentOf, dataOf, dataFit, judgeOutcome, statusText, contentText, outcomeText, asStatus, readStatus, readLoadOutcome, readOutcome}
 use Rattle.harl.specs.Message.{ruleFor, judgeAsked, judgeReply, readReply, writeReply}
 use Rattle.harl.specs.Back.{RepliesReadBack}
 use Rattle.harl.proofs.Laws.{fitting}

@@ -33,7 +33,7 @@ use Rattle.harl.specs.declared.body.Judged.the-variants.{Accepted}
 use Rattle.commands.specs.Command.{same, nameOf, among, commandOf, ruleOf}
 use Rattle.commands.specs.Request.{one, partsOf, requestOf}
 use Rattle.harl.specs.Data.{judge, allInRange, dataText}
-use Rattle.harl.specs.Body.{dataShape, readShape, decided, readBody, dataPart, bodyText}
+use Rattle.harl.specs.Body.{dataShape, readShape, requestOrRefusal, readBody, dataPart, bodyText}
 use Rattle.harl.specs.Message.{ruleFor, judgeAsked, readRequest, writeRequest}
 use Rattle.harl.specs.Back.{RequestsReadBack}
 use Rattle.harl.proofs.Bodies.{body-length}
@@ -131,7 +131,7 @@ judged-ok c n r e =
     (omega (arith, p .high, ltb-true (ruleOf c .last) 10000 (sound c .small)), p .values)
 
 body-back : (r : Request) → judge (ruleFor r) (partsOf r .number) (partsOf r .values) ≡ 0 → readBody (bodyText (partsOf r)) ≡ Accepted r
-unfolding readBody bodyText decided
+unfolding readBody bodyText requestOrRefusal
 body-back r e =
     let c : Command = partsOf r .command in
     let n : ℕ = partsOf r .number in

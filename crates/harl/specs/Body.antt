@@ -42,13 +42,13 @@ readShape rule [] = shape.Malformed
 readShape rule (n ∷ fs) = numbered (readWhole n) (dataShape (rule .store) (rule .kind) fs)
 
 -- 11 NUMBER, 12 VALUE, or the request
-unfoldable pub decided : Command → ℕ → Row → Judged
-decided c n r =
+unfoldable pub requestOrRefusal : Command → ℕ → Row → Judged
+requestOrRefusal c n r =
     cond (eqb (judge (ruleOf c) n r) 0) (Accepted (builds c n r)) (Refused (judge (ruleOf c) n r) (ruleOf c .store))
 
 -- 10 SHAPE, then those
 abbrev pub shaped : Command → Shape → Judged
-shaped c (shape.Of n r) = decided c n r
+shaped c (shape.Of n r) = requestOrRefusal c n r
 shaped c shape.Malformed = Refused 10 (ruleOf c .store)
 
 -- 9 COMMAND, then those

@@ -3,6 +3,7 @@ use Prim.Native.Nat.{ℕ, _≤_}
 use mathlib.Core.Path.{_≡_}
 use mathlib.Core.Bool.{cond, _||_}
 use mathlib.Core.List.{List, []}
+use mathlib.Core.Option.{Option, none, some}
 use lib.Dec.{ltb, eqb}
 use lib.ListN.{length}
 use lib.Seq.{sets}
@@ -25,23 +26,6 @@ use Rattle.harl.specs.Data.{judge}
 use Rattle.harl.specs.Body.{readBody, bodyText}
 use Rattle.harl.specs.Reply.{judgeOutcome, outcomeText, readOutcome}
 
--- the refusal number of each answer, 0 for none
-abbrev pub askedNumber : Asked → ℕ
-askedNumber (asked.Accepted station r) = 0
-askedNumber (asked.Refused n) = n
-
-abbrev pub answeredNumber : Answered → ℕ
-answeredNumber (answered.Accepted o) = 0
-answeredNumber (answered.Refused n) = n
-
-abbrev pub judgedNumber : Judged → ℕ
-judgedNumber (judged.Accepted r) = 0
-judgedNumber (judged.Refused n store) = n
-
-abbrev pub carriedNumber : Carried → ℕ
-carriedNumber (carried.Outcome o) = 0
-carriedNumber carried.Nothing = 15
-
 -- the rule of a request's command
 abbrev pub ruleFor : Request → Rule
 ruleFor r = ruleOf (partsOf r .command)
@@ -56,23 +40,33 @@ judgeAsked station r = cond (eqb station 0 || ltb 99 station) 7 (judgeRequest r)
 
 -- ---- reading a request: 2 to 7, then 9 to 12
 
-abbrev pub fromStation : ℕ → Judged → Asked
-fromStation station (judged.Accepted r) = asked.Accepted station r
-fromStation station (judged.Refused n store) = asked.Refused n
+-- what reading a request hands back: the refusal number, 0 for none; the station and the request, 0 and none where
+-- refused
+pub record RequestReading : Type 0 where
+  pub number : ℕ
+  pub station : ℕ
+  pub request : Option Request
 
-abbrev pub requestIn : Reading → Asked
-requestIn o = cond (eqb (o .number) 0) (fromStation (o .station) (readBody (o .body))) (asked.Refused (o .number))
+abbrev pub theRequest : ℕ → Request → RequestReading
+theRequest station r = record { number = 0; station = station; request = some r }
 
-unfoldable pub readRequest : List ℕ → Asked
+abbrev pub noRequest : ℕ → RequestReading
+noRequest n = record { number = n; station = 0; request = none }
+
+-- the number and the values of each case of the code's answer
+abbrev pub askedValues : Asked → RequestReading
+askedValues (asked.Accepted station r) = theRequest station r
+askedValues (asked.Refused n) = noRequest n
+
+abbrev pub fromStation : ℕ → Judged → RequestReading
+fromStation station (judged.Accepted r) = theRequest station r
+fromStation station (judged.Refused n store) = noRequest n
+
+abbrev pub requestIn : Reading → RequestReading
+requestIn o = cond (eqb (o .number) 0) (fromStation (o .station) (readBody (o .body))) (noRequest (o .number))
+
+unfoldable pub readRequest : List ℕ → RequestReading
 readRequest s = requestIn (readFrame s)
-
--- the number of a slice read as a request: 2 to 7 of the frame, then 9 to 12 of its body
-abbrev pub requestNumber : Reading → ℕ
-requestNumber o = cond (eqb (o .number) 0) (judgedNumber (readBody (o .body))) (o .number)
-
-pub record RequestRead (s : List ℕ) (a : Asked) : Type 0 where
-  pub number-is : askedNumber a ≡ requestNumber (readFrame s)
-  pub answer-is : a ≡ readRequest s
 
 -- ---- writing
 
@@ -107,29 +101,32 @@ writeReply room station r o = message (judgeReply room station r o) (frameOf sta
 
 -- ---- reading a reply: 7, 11, 12 of the request, 2 to 7 of the slice, then 15
 
-abbrev pub answer : Carried → Answered
-answer (carried.Outcome o) = answered.Accepted o
-answer carried.Nothing = answered.Refused 15
+-- what reading a reply hands back: the refusal number, 0 for none; the data or the status, none where refused
+pub record ReplyReading : Type 0 where
+  pub number : ℕ
+  pub outcome : Option Outcome
+
+abbrev pub theOutcome : Outcome → ReplyReading
+theOutcome o = record { number = 0; outcome = some o }
+
+abbrev pub noOutcome : ℕ → ReplyReading
+noOutcome n = record { number = n; outcome = none }
+
+-- the number and the values of each case of the code's answer
+abbrev pub answeredValues : Answered → ReplyReading
+answeredValues (answered.Accepted o) = theOutcome o
+answeredValues (answered.Refused n) = noOutcome n
+
+abbrev pub fromCarried : Carried → ReplyReading
+fromCarried (carried.Outcome o) = theOutcome o
+fromCarried carried.Nothing = noOutcome 15
 
 -- 15 REPLY: not the asked station, or not a reply to that request
-abbrev pub replyIn : Reading → ℕ → Request → Answered
+abbrev pub replyIn : Reading → ℕ → Request → ReplyReading
 replyIn o station r =
     cond (eqb (o .number) 0)
-    (cond (eqb (o .station) station) (answer (readOutcome (ruleFor r) (o .body))) (answered.Refused 15))
-    (answered.Refused (o .number))
+    (cond (eqb (o .station) station) (fromCarried (readOutcome (ruleFor r) (o .body))) (noOutcome 15))
+    (noOutcome (o .number))
 
-unfoldable pub readReply : List ℕ → ℕ → Request → Answered
-readReply s station r = cond (eqb (judgeAsked station r) 0) (replyIn (readFrame s) station r) (answered.Refused (judgeAsked station r))
-
--- the number of a slice read as a reply: those of the request, 2 to 7 of the frame, then 15
-abbrev pub replyNumber : Reading → ℕ → Request → ℕ
-replyNumber o station r =
-    cond (eqb (judgeAsked station r) 0)
-    (cond (eqb (o .number) 0)
-    (cond (eqb (o .station) station) (carriedNumber (readOutcome (ruleFor r) (o .body))) 15)
-    (o .number))
-    (judgeAsked station r)
-
-pub record ReplyRead (s : List ℕ) (station : ℕ) (r : Request) (a : Answered) : Type 0 where
-  pub number-is : answeredNumber a ≡ replyNumber (readFrame s) station r
-  pub answer-is : a ≡ readReply s station r
+unfoldable pub readReply : List ℕ → ℕ → Request → ReplyReading
+readReply s station r = cond (eqb (judgeAsked station r) 0) (replyIn (readFrame s) station r) (noOutcome (judgeAsked station r))

@@ -1,11 +1,11 @@
 -- The body of a reply (document 01, "The tables and replies").
 use Prim.Native.Nat.{ℕ}
 use mathlib.Core.Bool.{Bool, true, false, cond, _&&_}
-use mathlib.Core.List.{List, [], _∷_, _++_}
+use mathlib.Core.List.{List, [], _∷_}
 use lib.Dec.{ltb, eqb}
 use lib.IntN.{ℤ}
 use lib.ListN.{length, getD, drop}
-use Rattle.text.specs.Whole.{readWhole, digit}
+use Rattle.text.specs.Whole.{readWhole, twoDigits}
 use Rattle.text.specs.declared.whole.Whole.{Whole}
 use Rattle.text.specs.declared.whole.Whole.the-variants as whole
 use Rattle.frame.specs.Fields.{fields}
@@ -63,9 +63,6 @@ judgeOutcome rule (outcome.Status n) = cond (ltb 99 n) 12 0
 
 -- ---- writing
 
-abbrev pub twoDigits : ℕ → List ℕ
-twoDigits n = digit 10 n ++ digit 1 n
-
 -- "E" and the two digits for an LN, the two digits alone for an SN
 unfoldable pub statusText : Bool → ℕ → List ℕ
 statusText true n = twoDigits n
@@ -85,6 +82,11 @@ refusalText n store = cond (eqb n 9) unknownText (statusText store n)
 
 abbrev pub contentText : Content → List ℕ
 contentText c = dataText (c .kind) (c .row)
+
+-- what replies to a request that was performed: the data of an LN, the status of an SN
+abbrev pub performedText : Outcome → List ℕ
+performedText (outcome.Data d) = contentText (contentOf d)
+performedText (outcome.Status n) = statusText true n
 
 -- the data or the status of a reply, to an SN or not
 unfoldable pub outcomeText : Bool → Outcome → List ℕ

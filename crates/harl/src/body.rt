@@ -24,7 +24,7 @@ ghost use lib.ListN.{length};
 ghost use Rattle.text.specs.Put.{Put};
 ghost use Rattle.frame.specs.Fields.{fields};
 ghost use Rattle.commands.specs.Command.{ruleOf};
-ghost use Rattle.harl.specs.Body.{readShape, decided, readBody, bodyText};
+ghost use Rattle.harl.specs.Body.{readShape, requestOrRefusal, readBody, bodyText};
 
 // What the fields after a name are: a number and data, or malformed.
 pub enum Shape {
@@ -66,9 +66,9 @@ fn read_shape(rule: Rule, s: &[u8]) -> Shape
 }
 
 // Checks 11 and 12 of a command's number and data.
-fn decide(command: Command, rule: Rule, n: u16, row: Row) -> Judged
+fn request_or_refusal(command: Command, rule: Rule, n: u16, row: Row) -> Judged
     requires { ⌜ rule ≡ ruleOf command ⌝ }
-    ensures { λ r. ⌜ r ≡ decided command n row ⌝ }
+    ensures { λ r. ⌜ r ≡ requestOrRefusal command n row ⌝ }
 {
     let number = judge_parts(rule, n, row);
     if number == 0 {
@@ -96,7 +96,7 @@ pub fn read_body(body: &[u8]) -> Judged
     let from = end + 1;
     let shape = read_shape(rule, &body[from..]);
     match shape {
-        Shape::Of(n, row) => decide(command, rule, n, row),
+        Shape::Of(n, row) => request_or_refusal(command, rule, n, row),
         Shape::Malformed => Judged::Refused(10, rule.store),
     }
 }

@@ -17,7 +17,7 @@ use frame::writer::close_frame;
 use frame::writer::open_frame;
 ghost use mathlib.Core.Path.{_≡_};
 ghost use lib.ListN.{length};
-ghost use Rattle.harl.specs.Message.{judgeAsked, RequestRead, writeRequest, writeReply, ReplyRead, Wrote};
+ghost use Rattle.harl.specs.Message.{judgeAsked, askedValues, readRequest, writeRequest, writeReply, Wrote, answeredValues, readReply};
 
 // What a slice is as a request: its station and the request, or the number of its refusal.
 pub enum Asked {
@@ -57,7 +57,7 @@ fn judge_asked(station: u8, request: Request) -> u8
 
 // Reads a request: checks 2 to 7, then 9 to 12.
 pub fn read_request(slice: &[u8]) -> Asked
-    ensures { λ r. ⌜ RequestRead (now (slice .entry)) r ⌝ }
+    ensures { λ r. ⌜ askedValues r ≡ readRequest (now (slice .entry)) ⌝ }
 {
     let mut number: u8 = 0;
     let mut station: u8 = 0;
@@ -124,7 +124,7 @@ pub fn write_reply(area: &mut [u8], station: u8, request: Request, outcome: Outc
 
 // Reads the reply to a request: checks 7, 11 and 12 of the request, 2 to 7 of the slice, then 15.
 pub fn read_reply(slice: &[u8], station: u8, request: Request) -> Answered
-    ensures { λ r. ⌜ ReplyRead (now (slice .entry)) station request r ⌝ }
+    ensures { λ r. ⌜ answeredValues r ≡ readReply (now (slice .entry)) station request ⌝ }
 {
     let asked = judge_asked(station, request);
     if asked != 0 {

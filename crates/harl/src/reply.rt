@@ -10,7 +10,7 @@ use commands::request::Row;
 use text::put::put_byte;
 use text::put::put_bytes;
 use text::whole::Whole;
-use text::whole::put_digit;
+use text::whole::put_two_digits;
 use text::whole::read_whole;
 ghost use mathlib.Core.Path.{_≡_};
 ghost use Prim.Native.Nat.{_≤_, _+_};
@@ -141,12 +141,10 @@ pub fn put_status(area: &mut [u8], at: usize, store: bool, n: u8) -> usize
         if n == 0 {
             return put_bytes(area, at, &DONE);
         }
-        let ones = put_digit(area, at, 10, n as u16);
-        return put_digit(area, ones, 1, n as u16);
+        return put_two_digits(area, at, n as u16);
     }
-    let tens = put_byte(area, at, b'E');
-    let ones = put_digit(area, tens, 10, n as u16);
-    put_digit(area, ones, 1, n as u16)
+    let digits = put_byte(area, at, b'E');
+    put_two_digits(area, digits, n as u16)
 }
 
 // Writes what answers a refusal: of a name that is no command's, or of an LN or SN name.

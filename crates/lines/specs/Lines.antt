@@ -5,7 +5,7 @@ use mathlib.Core.List.{List, [], _∷_, _++_}
 use lib.ListN.{length}
 use lib.Seq.{sets}
 use lib.Dec.{ltb, leb, eqb}
-use Rattle.text.specs.Whole.{digit}
+use Rattle.text.specs.Whole.{twoDigits}
 use Rattle.lines.specs.declared.reader.Line.{Line}
 use Rattle.lines.specs.declared.reader.Line.the-variants.{Slice, NoCall}
 
@@ -61,7 +61,7 @@ replyText (b ∷ bs) = 32 ∷ hexText (b ∷ bs)
 
 -- the number with two digits, the reply, LF
 unfoldable pub answerLine : ℕ → List ℕ → List ℕ
-answerLine number reply = digit 10 number ++ (digit 1 number ++ (replyText reply ++ (10 ∷ [])))
+answerLine number reply = twoDigits number ++ (replyText reply ++ (10 ∷ []))
 
 -- "--", LF
 abbrev pub noCallLine : List ℕ

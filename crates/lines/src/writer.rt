@@ -1,7 +1,7 @@
 // The line of an answer: the number, and the reply in hexadecimal capitals.
 use text::put::put_byte;
 use text::put::put_bytes;
-use text::whole::put_digit;
+use text::whole::put_two_digits;
 ghost use mathlib.Core.Path.{_≡_};
 ghost use Prim.Native.Nat.{_+_, _<_, _≤_};
 ghost use lib.ListN.{length};
@@ -54,8 +54,7 @@ pub fn put_answer(out: &mut [u8], at: usize, number: u8, reply: &[u8]) -> usize
     requires { ⌜ at + length (answerLine number (now reply)) ≤ length (now out) ⌝ }
     ensures { λ r. ⌜ Put (now (out .entry)) at (answerLine number (now (reply .entry))) r (now (out .exit)) ⌝ }
 {
-    let ones = put_digit(out, at, 10, number as u16);
-    let behind = put_digit(out, ones, 1, number as u16);
+    let behind = put_two_digits(out, at, number as u16);
     let end = put_reply(out, behind, reply);
     put_byte(out, end, b'\n')
 }

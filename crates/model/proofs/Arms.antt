@@ -17,7 +17,7 @@ use Rattle.harl.specs.Body.{readBody}
 use Rattle.harl.specs.Reply.{statusText, outcomeText}
 use Rattle.tables.specs.Tables.{loaded, stored}
 use Rattle.model.specs.Call.{Call, serve, input}
-use Rattle.model.specs.Box.{Box, at, Decision, unanswered, refused, asked, inputSet, decideBody, perform, respond}
+use Rattle.model.specs.Box.{Box, at, Decision, unanswered, refused, accepted, inputSet, decideBody, perform, respond}
 use Rattle.model.specs.Lone.{holds, replaced, Step, answerBody, step}
 use Rattle.model.specs.Addressed.{eventOf, armOf}
 use Rattle.model.specs.Shaped.{Shaped}
@@ -85,6 +85,6 @@ module _ (b : Box) (k : ℕ) where
   unfolding perform
   other (unanswered n) h = refl
   other (refused j s n q) h = refl
-  other (asked j s (request.Load l)) h = refl
-  other (asked j s (request.Store q)) h = stored-other j q (λ e. h (ap at (sym e)))
+  other (accepted j s (request.Load l)) h = refl
+  other (accepted j s (request.Store q)) h = stored-other j q (λ e. h (ap at (sym e)))
   other (inputSet j p v) h = let ne : k ≡ j → ⊥ = λ e. h (ap at (sym e)) in simp row-other

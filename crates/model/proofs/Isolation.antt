@@ -6,7 +6,7 @@ use mathlib.Core.List.{List, [], _∷_}
 use lib.ListN.{getD, getD-replicate}
 use Rattle.tables.specs.Tables.{Tables, zeros}
 use Rattle.model.specs.Call.{Call}
-use Rattle.model.specs.Box.{Box, setup, Slot, nowhere, at, Decision, unanswered, refused, asked, inputSet, decide, performTables, perform, respond, after, answer, run}
+use Rattle.model.specs.Box.{Box, setup, Slot, nowhere, at, Decision, unanswered, refused, accepted, inputSet, decide, performTables, perform, respond, after, answer, run}
 use Rattle.model.specs.Lone.{Arm, zeroArm, Event, step, runLone, answersLone}
 use Rattle.model.specs.Addressed.{Fitted, isFor, eventOf, eventsFor, answersTo, armOf}
 use Rattle.model.specs.Shaped.{Shaped, AlwaysShaped}
@@ -96,14 +96,14 @@ run-stations cs b = run-keeps (λ d. d .stations ≡ b .stations) (λ d c e. aft
 unconcerned : (t : Tables) (d : Decision) → concerns d ≡ nowhere → performTables t d ≡ t
 unconcerned t (unanswered n) e = refl
 unconcerned t (refused k s n q) e = refl
-unconcerned t (asked k s r) e = nowhere-at (sym e)
+unconcerned t (accepted k s r) e = nowhere-at (sym e)
 unconcerned t (inputSet k p v) e = nowhere-at (sym e)
 
 no-reply : (b : Box) (d : Decision) → concerns d ≡ nowhere → respond b d .reply ≡ []
 unfolding respond
 no-reply b (unanswered n) e = refl
 no-reply b (refused k s n q) e = nowhere-at (sym e)
-no-reply b (asked k s r) e = nowhere-at (sym e)
+no-reply b (accepted k s r) e = nowhere-at (sym e)
 no-reply b (inputSet k p v) e = nowhere-at (sym e)
 
 unaddressed : (b : Box) (c : Call) → ((k : ℕ) → Fitted k (b .stations) → isFor k (b .stations) c ≡ false)

@@ -3,6 +3,7 @@ use Prim.Native.Nat.{ℕ, zero, suc, _%_, _≤_, _<_}
 use mathlib.Core.Path.{_≡_, refl, ap, _∙_}
 use mathlib.Core.Bool.{Bool, true, false, cond, not, _&&_}
 use mathlib.Core.List.{List, [], _∷_}
+use mathlib.Core.Option.{none, some}
 use native.Mathlib.Omega.{arith}
 use borrow.Author.Tests.{le-ltb, eqb-true, eq-eqb}
 use lib.Dec.{ltb, eqb}
@@ -22,12 +23,10 @@ use Rattle.harl.specs.declared.body.Judged.the-variants as judged
 use Rattle.harl.specs.declared.reply.Data.{Data}
 use Rattle.harl.specs.declared.reply.Outcome.{Outcome}
 use Rattle.harl.specs.declared.reply.Outcome.the-variants as outcome
-use Rattle.harl.specs.declared.message.Asked.the-variants as asked
-use Rattle.harl.specs.declared.message.Answered.the-variants as answered
 use Rattle.harl.specs.Data.{limitsOf, inRange, allInRange, judge}
 use Rattle.harl.specs.Body.{readBody}
 use Rattle.harl.specs.Reply.{contentOf, codeOf, dataFit, judgeOutcome, outcomeText}
-use Rattle.harl.specs.Message.{ruleFor, judgeAsked, fromStation, requestIn, readRequest, writeRequest, judgeReply, writeReply, readReply}
+use Rattle.harl.specs.Message.{ruleFor, judgeAsked, theRequest, noRequest, fromStation, requestIn, readRequest, writeRequest, judgeReply, writeReply, theOutcome, readReply}
 use Rattle.harl.proofs.Laws.{Fitting}
 use Rattle.harl.proofs.Accepted.{zero-in}
 use Rattle.harl.proofs.Ranges.{in-nat, all-x, all-y, passed}
@@ -126,18 +125,22 @@ pub record Framed (o : Reading) (s : ℕ) (r : Request) : Type 0 where
   pub station : o .station ≡ s
   pub body : readBody (o .body) ≡ judged.Accepted r
 
-never : {A : Type 0} {n s : ℕ} {r : Request} → asked.Refused n ≡ asked.Accepted s r → A
-never e = let z : _≡_ {A = ℕ} 0 1 = cc in absurd (omega arith)
+never : {A : Type 0} {n s : ℕ} {r : Request} → noRequest n ≡ theRequest s r → A
+never {A} {n} {s} {r} e =
+    let clash : none ≡ some r = ap (λ o. o .request) e in
+    let z : _≡_ {A = ℕ} 0 1 = cc in
+    absurd (omega arith)
 
 -- what reads as a request is a frame of it
-framed : (o : Reading) (s : ℕ) (r : Request) → requestIn o ≡ asked.Accepted s r → Framed o s r
+framed : (o : Reading) (s : ℕ) (r : Request) → requestIn o ≡ theRequest s r → Framed o s r
 framed o s r = go (eqb (o .number) 0) refl (readBody (o .body)) refl
   where
     go : (t : Bool) → eqb (o .number) 0 ≡ t → (j : Judged) → readBody (o .body) ≡ j
-        → cond t (fromStation (o .station) j) (asked.Refused (o .number)) ≡ asked.Accepted s r → Framed o s r
+        → cond t (fromStation (o .station) j) (noRequest (o .number)) ≡ theRequest s r → Framed o s r
     go true p (judged.Accepted q) w e =
+        let found : some q ≡ some r = ap (λ x. x .request) e in
         let same : q ≡ r = cc in
-        record { number = eqb-true (o .number) 0 p; station = cc; body = w ∙ ap judged.Accepted same }
+        record { number = eqb-true (o .number) 0 p; station = ap (λ x. x .station) e; body = w ∙ ap judged.Accepted same }
     go true p (judged.Refused n q) w e = never e
     go false p j w e = never e
 
@@ -157,6 +160,6 @@ fitting-in rule d f = rw (f .loads, f .kind, eq-eqb (codeOf (rule .kind)) _ refl
 
 -- the frame of an outcome that can be written reads as that outcome
 pub outcome-back : (s : ℕ) (r : Request) (o : Outcome) → judgeAsked s r ≡ 0 → judgeOutcome (ruleFor r) o ≡ 0
-    → readReply (frameOf s (outcomeText (ruleFor r .store) o)) s r ≡ answered.Accepted o
+    → readReply (frameOf s (outcomeText (ruleFor r .store) o)) s r ≡ theOutcome o
 unfolding judgeReply writeReply
 outcome-back s r o p q = let e : judgeReply 64 s r o ≡ 0 = rw (p, q) in rw e at (replies-read-back 64 s r o e)

@@ -5,6 +5,6 @@ pub mod Shaped
 pub mod Setups
 pub mod Isolation
 pub mod Ranges
-pub mod Link
+pub mod EndToEnd
 pub mod Runs
 pub mod Worked

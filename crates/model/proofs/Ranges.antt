@@ -27,7 +27,7 @@ use Rattle.tables.specs.Bits.{withBit}
 use Rattle.tables.specs.Tables.{Tables, StoreInRange, set2, stored, zeros}
 use Rattle.tables.proofs.Bits.{with-bit-byte}
 use Rattle.model.specs.Call.{Call, serve, input}
-use Rattle.model.specs.Box.{Box, setup, Slot, nowhere, at, slotOf, Decision, unanswered, refused, asked, inputSet, decideBody, decideSlot, decide, performTables, perform, after, run}
+use Rattle.model.specs.Box.{Box, setup, Slot, nowhere, at, slotOf, Decision, unanswered, refused, accepted, inputSet, decideBody, decideSlot, decide, performTables, perform, after, run}
 use Rattle.model.specs.Ranges.{InRange, bringsByte, bringBytes, AlwaysInRange}
 use Rattle.model.proofs.Laws.{cond-has, Every, every-set, every-equal, port-in, natural-in, data-in}
 
@@ -73,7 +73,7 @@ stored-in t k (store.MemoryPort p v) e h = search (set-natural, natural-in kind.
 abbrev Sound : Decision → Type 0
 Sound (unanswered n) = Unit
 Sound (refused k s n q) = Unit
-Sound (asked k s r) = judgeRequest r ≡ 0
+Sound (accepted k s r) = judgeRequest r ≡ 0
 Sound (inputSet k p v) = inRange kind.Port (pos v) ≡ true
 
 sound-slot : (s : ℕ) (body : List ℕ) (f : Slot) → Sound (decideSlot s body f)
@@ -100,8 +100,8 @@ sound st (input k p v) e =
 performed-in : (t : Tables) (d : Decision) → Sound d → InRange t → InRange (performTables t d)
 performed-in t (unanswered n) e h = h
 performed-in t (refused k s n q) e h = h
-performed-in t (asked k s (request.Load l)) e h = h
-performed-in t (asked k s (request.Store q)) e h = stored-in t k q e h
+performed-in t (accepted k s (request.Load l)) e h = h
+performed-in t (accepted k s (request.Store q)) e h = stored-in t k q e h
 performed-in t (inputSet k p v) e h = search set-natural
 
 after-in : (b : Box) (c : Call) → bringsByte c ≡ true → InRange (b .tables) → InRange (after b c .tables)

@@ -1,4 +1,4 @@
--- The runs of specs/Examples.antt, by computation.
+-- The runs of specs/Runs.antt, by computation.
 use mathlib.Core.Path.{refl}
 use Rattle.text.specs.Scan.{until}
 use Rattle.text.specs.Whole.{digitsOnto, readWhole, digit, leading, shortest, padded}
@@ -8,17 +8,17 @@ use Rattle.frame.specs.Fields.{first, more, fields}
 use Rattle.frame.specs.Frame.{stationOf, readInner, readFrame, opening, closing, frameOf}
 use Rattle.commands.specs.Command.{same, nameOf, among, commandOf}
 use Rattle.harl.specs.Data.{inRange, allInRange, judge, rowText}
-use Rattle.harl.specs.Body.{readShape, decided, readBody}
+use Rattle.harl.specs.Body.{readShape, requestOrRefusal, readBody}
 use Rattle.harl.specs.Reply.{statusText, outcomeText}
 use Rattle.tables.specs.Tables.{loaded, stored, zeros}
 use Rattle.model.specs.Box.{lacks, distinct, small, setupNumber, setup, scan, slotOf, decide, perform, respond, after, answer}
-use Rattle.model.specs.Examples.{answered, Runs}
+use Rattle.model.specs.Runs.{replayedTurns, Runs}
 
 pub runs-hold : Runs
 unfolding until digitsOnto readWhole digit leading shortest padded
     decimals magnitude readHundredths magnitudeText hundredthsText
     xorOnto lrcOf first more fields stationOf readInner readFrame opening closing frameOf
-    same nameOf among commandOf inRange allInRange judge rowText readShape decided readBody statusText outcomeText
+    same nameOf among commandOf inRange allInRange judge rowText readShape requestOrRefusal readBody statusText outcomeText
     loaded stored zeros
-    lacks distinct small setupNumber setup scan slotOf decide perform respond after answer answered
+    lacks distinct small setupNumber setup scan slotOf decide perform respond after answer replayedTurns
 runs-hold = refl

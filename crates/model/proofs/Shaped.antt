@@ -9,7 +9,7 @@ use Rattle.commands.specs.declared.request.Store.the-variants as store
 use Rattle.commands.specs.declared.request.Request.the-variants as request
 use Rattle.tables.specs.Tables.{Tables, set2, stored, zeros}
 use Rattle.model.specs.Call.{Call}
-use Rattle.model.specs.Box.{Box, Decision, unanswered, refused, asked, inputSet, decide, performTables, perform, after, setup}
+use Rattle.model.specs.Box.{Box, Decision, unanswered, refused, accepted, inputSet, decide, performTables, perform, after, setup}
 use Rattle.model.specs.Shaped.{Rows, Shaped}
 use Rattle.model.proofs.Laws.{row-other, row-same}
 
@@ -41,8 +41,8 @@ shaped-stored t k (store.MemoryPort p v) h = search rows-set
 shaped-performed : (t : Tables) (d : Decision) → Shaped t → Shaped (performTables t d)
 shaped-performed t (unanswered n) h = h
 shaped-performed t (refused k s n q) h = h
-shaped-performed t (asked k s (request.Load l)) h = h
-shaped-performed t (asked k s (request.Store q)) h = shaped-stored t k q h
+shaped-performed t (accepted k s (request.Load l)) h = h
+shaped-performed t (accepted k s (request.Store q)) h = shaped-stored t k q h
 shaped-performed t (inputSet k p v) h = search rows-set
 
 pub after-shaped : (b : Box) (c : Call) → Shaped (b .tables) → Shaped (after b c .tables)

@@ -15,7 +15,7 @@ use Rattle.harl.specs.declared.body.Judged.the-variants as judged
 use Rattle.harl.specs.Body.{readBody}
 use Rattle.harl.proofs.Ranges.{and-left, and-right}
 use Rattle.model.specs.Call.{Call, serve, input}
-use Rattle.model.specs.Box.{lacks, distinct, small, setupNumber, setup, Slot, nowhere, at, scan, slotOf, Decision, unanswered, refused, asked, inputSet, decideBody, decideSlot, decideFrame, decide}
+use Rattle.model.specs.Box.{lacks, distinct, small, setupNumber, setup, Slot, nowhere, at, scan, slotOf, Decision, unanswered, refused, accepted, inputSet, decideBody, decideSlot, decideFrame, decide}
 use Rattle.model.specs.Addressed.{Fitted, isFor}
 
 -- ---- no nonzero station stands twice
@@ -104,7 +104,7 @@ slot-own st k g f =
 abbrev pub concerns : Decision → Slot
 concerns (unanswered n) = nowhere
 concerns (refused k s n q) = at k
-concerns (asked k s r) = at k
+concerns (accepted k s r) = at k
 concerns (inputSet k p v) = at k
 
 body-concerns : (k s : ℕ) (j : Judged) → concerns (decideBody k s j) ≡ at k

@@ -8,18 +8,17 @@ use Rattle.frame.specs.Frame.{stationOf, readInner, readFrame, opening, closing
 use Rattle.frame.specs.Fields.{first, more, fields}
 use Rattle.commands.specs.Command.{same, nameOf, among, commandOf}
 use Rattle.harl.specs.Data.{inRange, allInRange, judge}
-use Rattle.harl.specs.Body.{readShape, decided, readBody, bodyText}
+use Rattle.harl.specs.Body.{readShape, requestOrRefusal, readBody, bodyText}
 use Rattle.harl.specs.Reply.{judgeOutcome, statusText, outcomeText}
 use Rattle.harl.specs.Message.{judgeAsked, writeRequest, judgeReply, writeReply}
 use Rattle.tables.specs.Tables.{loaded, stored, zeros}
-use Rattle.model.specs.Box.{lacks, distinct, small, setupNumber, setup, scan, slotOf, decide, respond}
-use Rattle.model.specs.Box as box
-use Rattle.model.specs.Worked.{answer, worked, Worked}
+use Rattle.model.specs.Box.{lacks, distinct, small, setupNumber, setup, scan, slotOf, decide, respond, answer}
+use Rattle.model.specs.Worked.{resultOf, worked, Worked}
 
 pub worked-out : Worked
-unfolding answer worked until readWhole digitsOnto digit leading shortest padded decimals magnitude
+unfolding resultOf worked until readWhole digitsOnto digit leading shortest padded decimals magnitude
     readHundredths magnitudeText hundredthsText xorOnto lrcOf opening closing frameOf first more fields same
-    nameOf among commandOf inRange allInRange judge readShape decided readBody bodyText judgeOutcome statusText
+    nameOf among commandOf inRange allInRange judge readShape requestOrRefusal readBody bodyText judgeOutcome statusText
     outcomeText judgeAsked writeRequest judgeReply writeReply stationOf readInner readFrame loaded stored zeros
-    lacks distinct small setupNumber setup scan slotOf decide respond box.answer
+    lacks distinct small setupNumber setup scan slotOf decide respond answer
 worked-out = refl

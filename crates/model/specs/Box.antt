@@ -11,8 +11,8 @@ use Rattle.commands.specs.declared.request.Request.{Request}
 use Rattle.harl.specs.declared.body.Judged.{Judged}
 use Rattle.harl.specs.declared.body.Judged.the-variants as judged
 use Rattle.harl.specs.Body.{readBody}
-use Rattle.harl.specs.Reply.{outcomeText, refusalText}
-use Rattle.tables.specs.Tables.{Tables, withInputs, set2, performed, answered, zeros}
+use Rattle.harl.specs.Reply.{performedText, refusalText}
+use Rattle.tables.specs.Tables.{Tables, withInputs, set2, performed, outcomeAt, zeros}
 use Rattle.model.specs.Call.{Call, serve, input, Answer, noReply}
 
 -- a station of 0 leaves its slot unfitted
@@ -60,17 +60,17 @@ scan st s (suc m) i = cond (eqb (getD st i 0) s) (at i) (scan st s m (suc i))
 unfoldable pub slotOf : List ℕ → ℕ → Slot
 slotOf st s = cond (eqb s 0) nowhere (scan st s 4 0)
 
--- unanswered: refused with no reply. refused: slot, station, number, whether the name is an SN's. asked: slot,
+-- unanswered: refused with no reply. refused: slot, station, number, whether the name is an SN's. accepted: slot,
 -- station, request. inputSet: slot, input port, byte
 pub data Decision : Type 0 where
   unanswered : ℕ → Decision
   refused : ℕ → ℕ → ℕ → Bool → Decision
-  asked : ℕ → ℕ → Request → Decision
+  accepted : ℕ → ℕ → Request → Decision
   inputSet : ℕ → ℕ → ℕ → Decision
 
 -- 9 to 12
 abbrev pub decideBody : ℕ → ℕ → Judged → Decision
-decideBody k s (judged.Accepted r) = asked k s r
+decideBody k s (judged.Accepted r) = accepted k s r
 decideBody k s (judged.Refused n store) = refused k s n store
 
 -- 8 ABSENT
@@ -95,7 +95,7 @@ decide st (input k port byte) =
 abbrev pub performTables : Tables → Decision → Tables
 performTables t (unanswered n) = t
 performTables t (refused k s n store) = t
-performTables t (asked k s r) = performed k r t
+performTables t (accepted k s r) = performed k r t
 performTables t (inputSet k p v) = withInputs t (set2 (t .inputs) k p v)
 
 unfoldable pub perform : Box → Decision → Box
@@ -104,7 +104,7 @@ perform b d = record { stations = b .stations; tables = performTables (b .tables
 unfoldable pub respond : Box → Decision → Answer
 respond b (unanswered n) = noReply n
 respond b (refused k s n store) = record { number = n; reply = frameOf s (refusalText n store) }
-respond b (asked k s r) = record { number = 0; reply = frameOf s (outcomeText true (answered k r (b .tables))) }
+respond b (accepted k s r) = record { number = 0; reply = frameOf s (performedText (outcomeAt k r (b .tables))) }
 respond b (inputSet k p v) = noReply 0
 
 -- the box that a call leaves, and its answer

@@ -5,6 +5,6 @@ pub mod Addressed
 pub mod Shaped
 pub mod Ranges
 pub mod Demand3
-pub mod Link
-pub mod Examples
+pub mod EndToEnd
+pub mod Runs
 pub mod Worked

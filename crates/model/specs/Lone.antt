@@ -1,6 +1,6 @@
 -- The lone box (document 01, "Demand 3's list and the lone box"): one arm with its own tables. It is fed the
 -- calls addressed to that arm. It shares with the box only the reading of frames and requests, the forming
--- of replies, and what a bit of a byte is.
+-- of replies, what a bit of a byte is, and the form of a record with a table for each kind.
 use Prim.Native.Nat.{ℕ, _-_, _/_, _%_}
 use mathlib.Core.List.{List, [], _∷_}
 use lib.ListN.{getD, set, replicate}
@@ -19,17 +19,12 @@ use Rattle.harl.specs.declared.reply.Data.the-variants as held
 use Rattle.harl.specs.Body.{readBody}
 use Rattle.harl.specs.Reply.{contentOf, contentText, refusalText, doneText}
 use Rattle.tables.specs.Bits.{bit, withBit}
+use Rattle.tables.specs.Tables.{PerKind, withTimers, withRegisters, withRows, withInputs, withOutputs, withMemory}
 use Rattle.model.specs.Call.{Answer, noReply}
 
 -- 16 timers, 64 registers, 100 rows, 32 input, 32 output and 16 memory ports
-pub record Arm : Type 0 where
-  pub timers : List ℕ
-  pub registers : List ℕ
-  pub x : List ℤ
-  pub y : List ℤ
-  pub inputs : List ℕ
-  pub outputs : List ℕ
-  pub memory : List ℕ
+abbrev pub Arm : Type 0
+Arm = PerKind (List ℕ) (List ℤ)
 
 -- all zero at first
 unfoldable pub zeroArm : Arm
@@ -50,8 +45,8 @@ pub data Event : Type 0 where
   portIn : ℕ → ℕ → Event
 
 -- a signal is bit n % 8 of port n / 8
-abbrev pub signal : List ℕ → ℕ → ℕ
-signal ports n = bit (getD ports (n / 8) 0) (n % 8)
+abbrev pub signalIn : List ℕ → ℕ → ℕ
+signalIn ports n = bit (getD ports (n / 8) 0) (n % 8)
 
 abbrev pub withSignal : List ℕ → ℕ → ℕ → List ℕ
 withSignal ports n v = set ports (n / 8) (withBit (getD ports (n / 8) 0) (n % 8) v)
@@ -61,31 +56,12 @@ unfoldable pub holds : Arm → Load → Data
 holds a (load.Timer n) = held.Timer (pos (getD (a .timers) n 0))
 holds a (load.Register n) = held.Register (pos (getD (a .registers) n 0))
 holds a (load.Row n) = held.Row (record { x = getD (a .x) n (pos 0); y = getD (a .y) n (pos 0) })
-holds a (load.Input g) = held.Signal (pos (signal (a .inputs) (g .0)))
+holds a (load.Input g) = held.Signal (pos (signalIn (a .inputs) (g .0)))
 holds a (load.InputPort p) = held.Port (pos (getD (a .inputs) (p .0) 0))
-holds a (load.Output g) = held.Signal (pos (signal (a .outputs) (g .0)))
+holds a (load.Output g) = held.Signal (pos (signalIn (a .outputs) (g .0)))
 holds a (load.OutputPort p) = held.Port (pos (getD (a .outputs) (p .0) 0))
-holds a (load.MemoryBit g) = held.Signal (pos (signal (a .memory) (g .0 - 256)))
+holds a (load.MemoryBit g) = held.Signal (pos (signalIn (a .memory) (g .0 - 256)))
 holds a (load.MemoryPort p) = held.Port (pos (getD (a .memory) (p .0) 0))
-
--- an arm with one table replaced
-abbrev pub withTimers : Arm → List ℕ → Arm
-withTimers a t = record { timers = t; registers = a .registers; x = a .x; y = a .y; inputs = a .inputs; outputs = a .outputs; memory = a .memory }
-
-abbrev pub withRegisters : Arm → List ℕ → Arm
-withRegisters a t = record { timers = a .timers; registers = t; x = a .x; y = a .y; inputs = a .inputs; outputs = a .outputs; memory = a .memory }
-
-abbrev pub withRows : Arm → List ℤ → List ℤ → Arm
-withRows a tx ty = record { timers = a .timers; registers = a .registers; x = tx; y = ty; inputs = a .inputs; outputs = a .outputs; memory = a .memory }
-
-abbrev pub withInputs : Arm → List ℕ → Arm
-withInputs a t = record { timers = a .timers; registers = a .registers; x = a .x; y = a .y; inputs = t; outputs = a .outputs; memory = a .memory }
-
-abbrev pub withOutputs : Arm → List ℕ → Arm
-withOutputs a t = record { timers = a .timers; registers = a .registers; x = a .x; y = a .y; inputs = a .inputs; outputs = t; memory = a .memory }
-
-abbrev pub withMemory : Arm → List ℕ → Arm
-withMemory a t = record { timers = a .timers; registers = a .registers; x = a .x; y = a .y; inputs = a .inputs; outputs = a .outputs; memory = t }
 
 -- the data replace what is held under the number, and nothing else changes
 unfoldable pub replaced : Arm → Store → Arm

@@ -1,4 +1,4 @@
--- The examples of document 01 that are marked P: what is asked of the definitions, and what they must answer.
+-- The examples of document 01 that are marked P: what is asked of the definitions, and what they must give.
 -- Bytes are written as the document prints them, in hexadecimal.
 use Prim.Native.Nat.{ℕ}
 use mathlib.Core.Path.{_≡_}
@@ -21,90 +21,89 @@ use Rattle.harl.specs.Body.{readBody}
 use Rattle.harl.specs.Message.{writeRequest, writeReply}
 use Rattle.tables.specs.Chart.{placeOf}
 use Rattle.model.specs.Call.{serve}
-use Rattle.model.specs.Box.{setup}
-use Rattle.model.specs.Box as box
+use Rattle.model.specs.Box.{setup, answer}
 
 pub data Question : Type 0 where
   -- the frame of a station and a body
-  frame : ℕ → List ℕ → Question
+  framing : ℕ → List ℕ → Question
   -- the LRC of bytes
   lrc : List ℕ → Question
   -- a text read as hundredths
-  read : List ℕ → Question
+  reading : List ℕ → Question
   -- hundredths written
-  written : ℤ → Question
+  writing : ℤ → Question
   -- a request written for a station, into an area of 64 bytes
-  requested : ℕ → Request → Question
+  requesting : ℕ → Request → Question
   -- a reply to it
-  replied : ℕ → Request → Outcome → Question
+  replying : ℕ → Request → Outcome → Question
   -- a slice served by a new box of stations 1 to 4, with a reply area of 64 bytes
-  served : List ℕ → Question
+  serving : List ℕ → Question
   -- a body judged as a request: checks 9 to 12
-  judged : List ℕ → Question
+  judging : List ℕ → Question
   -- the place of a signal, in a chart that starts with the first
-  placed : ℕ → ℕ → Question
+  placing : ℕ → ℕ → Question
 
-pub data Answer : Type 0 where
-  bytes : List ℕ → Answer
-  byte : ℕ → Answer
-  hundredths : Hundredths → Answer
+pub data Result : Type 0 where
+  bytes : List ℕ → Result
+  byte : ℕ → Result
+  amount : Hundredths → Result
   -- a refusal number, 0 for none, and the bytes of a frame
-  sent : ℕ → List ℕ → Answer
-  verdict : Judged → Answer
+  sent : ℕ → List ℕ → Result
+  verdict : Judged → Result
   -- a port and a bit
-  place : ℕ → ℕ → Answer
+  place : ℕ → ℕ → Result
 
--- what the definitions answer
-unfoldable pub answer : Question → Answer
-answer (frame station body) = bytes (frameOf station body)
-answer (lrc bs) = byte (lrcOf bs)
-answer (read text) = hundredths (readHundredths text)
-answer (written z) = bytes (hundredthsText z)
-answer (requested station r) = sent (writeRequest 64 station r .number) (writeRequest 64 station r .bytes)
-answer (replied station r o) = sent (writeReply 64 station r o .number) (writeReply 64 station r o .bytes)
-answer (served slice) =
-    let a = box.answer (setup (1 ∷ 2 ∷ 3 ∷ 4 ∷ [])) (serve slice 64) in
+-- what the definitions give
+unfoldable pub resultOf : Question → Result
+resultOf (framing station body) = bytes (frameOf station body)
+resultOf (lrc bs) = byte (lrcOf bs)
+resultOf (reading text) = amount (readHundredths text)
+resultOf (writing z) = bytes (hundredthsText z)
+resultOf (requesting station r) = sent (writeRequest 64 station r .number) (writeRequest 64 station r .bytes)
+resultOf (replying station r o) = sent (writeReply 64 station r o .number) (writeReply 64 station r o .bytes)
+resultOf (serving slice) =
+    let a = answer (setup (1 ∷ 2 ∷ 3 ∷ 4 ∷ [])) (serve slice 64) in
     sent (a .number) (a .reply)
-answer (judged body) = verdict (readBody body)
-answer (placed first n) = place (placeOf first n .port) (placeOf first n .bit)
+resultOf (judging body) = verdict (readBody body)
+resultOf (placing first n) = place (placeOf first n .port) (placeOf first n .bit)
 
--- each question with the answer that the document gives
-unfoldable pub worked : List (Question × Answer)
+-- each question with the result that the document gives
+unfoldable pub worked : List (Question × Result)
 worked =
     -- P1: station 1, "LNT 5"
-    (frame 1 (0x4C ∷ 0x4E ∷ 0x54 ∷ 0x20 ∷ 0x35 ∷ []), bytes (0x02 ∷ 0x31 ∷ 0x20 ∷ 0x4C ∷ 0x4E ∷ 0x54 ∷ 0x20 ∷ 0x35 ∷ 0x03 ∷ 0x51 ∷ []))
+    (framing 1 (0x4C ∷ 0x4E ∷ 0x54 ∷ 0x20 ∷ 0x35 ∷ []), bytes (0x02 ∷ 0x31 ∷ 0x20 ∷ 0x4C ∷ 0x4E ∷ 0x54 ∷ 0x20 ∷ 0x35 ∷ 0x03 ∷ 0x51 ∷ []))
     -- P2: "2 SND 63 0042" and ETX; the reply "2 00" and ETX
     ∷ (lrc (0x32 ∷ 0x20 ∷ 0x53 ∷ 0x4E ∷ 0x44 ∷ 0x20 ∷ 0x36 ∷ 0x33 ∷ 0x20 ∷ 0x30 ∷ 0x30 ∷ 0x34 ∷ 0x32 ∷ 0x03 ∷ []), byte 0x4B)
     ∷ (lrc (0x32 ∷ 0x20 ∷ 0x30 ∷ 0x30 ∷ 0x03 ∷ []), byte 0x11)
     -- P2 from typed values: 42 into register 63 of station 2; the reply that it is done
-    ∷ (requested 2 (Store (Register 63 (pos 42))), sent 0 (0x02 ∷ 0x32 ∷ 0x20 ∷ 0x53 ∷ 0x4E ∷ 0x44 ∷ 0x20 ∷ 0x36 ∷ 0x33 ∷ 0x20 ∷ 0x30 ∷ 0x30 ∷ 0x34 ∷ 0x32 ∷ 0x03 ∷ 0x4B ∷ []))
-    ∷ (replied 2 (Store (Register 63 (pos 42))) (Status 0), sent 0 (0x02 ∷ 0x32 ∷ 0x20 ∷ 0x30 ∷ 0x30 ∷ 0x03 ∷ 0x11 ∷ []))
+    ∷ (requesting 2 (Store (Register 63 (pos 42))), sent 0 (0x02 ∷ 0x32 ∷ 0x20 ∷ 0x53 ∷ 0x4E ∷ 0x44 ∷ 0x20 ∷ 0x36 ∷ 0x33 ∷ 0x20 ∷ 0x30 ∷ 0x30 ∷ 0x34 ∷ 0x32 ∷ 0x03 ∷ 0x4B ∷ []))
+    ∷ (replying 2 (Store (Register 63 (pos 42))) (Status 0), sent 0 (0x02 ∷ 0x32 ∷ 0x20 ∷ 0x30 ∷ 0x30 ∷ 0x03 ∷ 0x11 ∷ []))
     -- P2 served
-    ∷ (served (0x02 ∷ 0x32 ∷ 0x20 ∷ 0x53 ∷ 0x4E ∷ 0x44 ∷ 0x20 ∷ 0x36 ∷ 0x33 ∷ 0x20 ∷ 0x30 ∷ 0x30 ∷ 0x34 ∷ 0x32 ∷ 0x03 ∷ 0x4B ∷ []), sent 0 (0x02 ∷ 0x32 ∷ 0x20 ∷ 0x30 ∷ 0x30 ∷ 0x03 ∷ 0x11 ∷ []))
+    ∷ (serving (0x02 ∷ 0x32 ∷ 0x20 ∷ 0x53 ∷ 0x4E ∷ 0x44 ∷ 0x20 ∷ 0x36 ∷ 0x33 ∷ 0x20 ∷ 0x30 ∷ 0x30 ∷ 0x34 ∷ 0x32 ∷ 0x03 ∷ 0x4B ∷ []), sent 0 (0x02 ∷ 0x32 ∷ 0x20 ∷ 0x30 ∷ 0x30 ∷ 0x03 ∷ 0x11 ∷ []))
     -- P3: "-0.05"
-    ∷ (read (0x2D ∷ 0x30 ∷ 0x2E ∷ 0x30 ∷ 0x35 ∷ []), hundredths (Value (negℤ (pos 5))))
+    ∷ (reading (0x2D ∷ 0x30 ∷ 0x2E ∷ 0x30 ∷ 0x35 ∷ []), amount (Value (negℤ (pos 5))))
     -- P4: "-0"
-    ∷ (read (0x2D ∷ 0x30 ∷ []), hundredths (Value (pos 0)))
+    ∷ (reading (0x2D ∷ 0x30 ∷ []), amount (Value (pos 0)))
     -- P5: "12.5"
-    ∷ (read (0x31 ∷ 0x32 ∷ 0x2E ∷ 0x35 ∷ []), hundredths (Value (pos 1250)))
+    ∷ (reading (0x31 ∷ 0x32 ∷ 0x2E ∷ 0x35 ∷ []), amount (Value (pos 1250)))
     -- P6: "-9999.99"
-    ∷ (read (0x2D ∷ 0x39 ∷ 0x39 ∷ 0x39 ∷ 0x39 ∷ 0x2E ∷ 0x39 ∷ 0x39 ∷ []), hundredths (Value (negℤ (pos 999999))))
+    ∷ (reading (0x2D ∷ 0x39 ∷ 0x39 ∷ 0x39 ∷ 0x39 ∷ 0x2E ∷ 0x39 ∷ 0x39 ∷ []), amount (Value (negℤ (pos 999999))))
     -- P7: "10000"
-    ∷ (read (0x31 ∷ 0x30 ∷ 0x30 ∷ 0x30 ∷ 0x30 ∷ []), hundredths Malformed)
+    ∷ (reading (0x31 ∷ 0x30 ∷ 0x30 ∷ 0x30 ∷ 0x30 ∷ []), amount Malformed)
     -- P7 as an offset, "SNL 0 10000 0": SHAPE of an SN
-    ∷ (judged (0x53 ∷ 0x4E ∷ 0x4C ∷ 0x20 ∷ 0x30 ∷ 0x20 ∷ 0x31 ∷ 0x30 ∷ 0x30 ∷ 0x30 ∷ 0x30 ∷ 0x20 ∷ 0x30 ∷ []), verdict (Refused 10 true))
+    ∷ (judging (0x53 ∷ 0x4E ∷ 0x4C ∷ 0x20 ∷ 0x30 ∷ 0x20 ∷ 0x31 ∷ 0x30 ∷ 0x30 ∷ 0x30 ∷ 0x30 ∷ 0x20 ∷ 0x30 ∷ []), verdict (Refused 10 true))
     -- P8: "SNT 0 10.00": VALUE of an SN
-    ∷ (judged (0x53 ∷ 0x4E ∷ 0x54 ∷ 0x20 ∷ 0x30 ∷ 0x20 ∷ 0x31 ∷ 0x30 ∷ 0x2E ∷ 0x30 ∷ 0x30 ∷ []), verdict (Refused 12 true))
+    ∷ (judging (0x53 ∷ 0x4E ∷ 0x54 ∷ 0x20 ∷ 0x30 ∷ 0x20 ∷ 0x31 ∷ 0x30 ∷ 0x2E ∷ 0x30 ∷ 0x30 ∷ []), verdict (Refused 12 true))
     -- P9: "SNT 0 -0.01"
-    ∷ (judged (0x53 ∷ 0x4E ∷ 0x54 ∷ 0x20 ∷ 0x30 ∷ 0x20 ∷ 0x2D ∷ 0x30 ∷ 0x2E ∷ 0x30 ∷ 0x31 ∷ []), verdict (Refused 12 true))
+    ∷ (judging (0x53 ∷ 0x4E ∷ 0x54 ∷ 0x20 ∷ 0x30 ∷ 0x20 ∷ 0x2D ∷ 0x30 ∷ 0x2E ∷ 0x30 ∷ 0x31 ∷ []), verdict (Refused 12 true))
     -- P10: output signal 255
-    ∷ (placed 0 255, place 31 7)
+    ∷ (placing 0 255, place 31 7)
     -- P11: memory bit 272
-    ∷ (placed 256 272, place 2 0)
+    ∷ (placing 256 272, place 2 0)
     -- P12: "0.05"
-    ∷ (written (pos 5), bytes (0x30 ∷ 0x2E ∷ 0x30 ∷ 0x35 ∷ []))
+    ∷ (writing (pos 5), bytes (0x30 ∷ 0x2E ∷ 0x30 ∷ 0x35 ∷ []))
     ∷ []
 
--- every question is answered as the document says
+-- every question has the result that the document says
 abbrev pub Worked : Type 0
-Worked = map (λ c. answer (c .0)) worked ≡ map (λ c. c .1) worked
+Worked = map (λ c. resultOf (c .0)) worked ≡ map (λ c. c .1) worked

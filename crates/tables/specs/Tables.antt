@@ -19,45 +19,42 @@ use Rattle.harl.specs.Message.{judgeRequest}
 use Rattle.tables.specs.Bits.{bit, withBit}
 use Rattle.tables.specs.Chart.{placeOf}
 
--- one table for each kind: a list of rows, one for each slot
-pub record Tables : Type 0 where
-  pub timers : List (List ℕ)
-  pub registers : List (List ℕ)
-  pub x : List (List ℤ)
-  pub y : List (List ℤ)
-  pub inputs : List (List ℕ)
-  pub outputs : List (List ℕ)
-  pub memory : List (List ℕ)
+-- something of each kind of item: N for whole numbers, Z for offsets
+pub record PerKind (N Z : Type 0) : Type 0 where
+  pub timers : N
+  pub registers : N
+  pub x : Z
+  pub y : Z
+  pub inputs : N
+  pub outputs : N
+  pub memory : N
 
-abbrev pub tables :
-    List (List ℕ) →
-    List (List ℕ) →
-    List (List ℤ) →
-    List (List ℤ) →
-    List (List ℕ) →
-    List (List ℕ) →
-    List (List ℕ) →
-    Tables
+abbrev pub tables : {N Z : Type 0} → N → N → Z → Z → N → N → N → PerKind N Z
 tables t r x y i o m =
     record { timers = t; registers = r; x = x; y = y; inputs = i; outputs = o; memory = m }
 
-abbrev pub withTimers : Tables → List (List ℕ) → Tables
+-- one of them replaced
+abbrev pub withTimers : {N Z : Type 0} → PerKind N Z → N → PerKind N Z
 withTimers t l = tables l (t .registers) (t .x) (t .y) (t .inputs) (t .outputs) (t .memory)
 
-abbrev pub withRegisters : Tables → List (List ℕ) → Tables
+abbrev pub withRegisters : {N Z : Type 0} → PerKind N Z → N → PerKind N Z
 withRegisters t l = tables (t .timers) l (t .x) (t .y) (t .inputs) (t .outputs) (t .memory)
 
-abbrev pub withRows : Tables → List (List ℤ) → List (List ℤ) → Tables
+abbrev pub withRows : {N Z : Type 0} → PerKind N Z → Z → Z → PerKind N Z
 withRows t lx ly = tables (t .timers) (t .registers) lx ly (t .inputs) (t .outputs) (t .memory)
 
-abbrev pub withInputs : Tables → List (List ℕ) → Tables
+abbrev pub withInputs : {N Z : Type 0} → PerKind N Z → N → PerKind N Z
 withInputs t l = tables (t .timers) (t .registers) (t .x) (t .y) l (t .outputs) (t .memory)
 
-abbrev pub withOutputs : Tables → List (List ℕ) → Tables
+abbrev pub withOutputs : {N Z : Type 0} → PerKind N Z → N → PerKind N Z
 withOutputs t l = tables (t .timers) (t .registers) (t .x) (t .y) (t .inputs) l (t .memory)
 
-abbrev pub withMemory : Tables → List (List ℕ) → Tables
+abbrev pub withMemory : {N Z : Type 0} → PerKind N Z → N → PerKind N Z
 withMemory t l = tables (t .timers) (t .registers) (t .x) (t .y) (t .inputs) (t .outputs) l
+
+-- one table for each kind: a list of rows, one for each slot
+abbrev pub Tables : Type 0
+Tables = PerKind (List (List ℕ)) (List (List ℤ))
 
 -- what slot s holds under n
 abbrev pub at2 : List (List ℕ) → ℕ → ℕ → ℕ
@@ -122,10 +119,10 @@ performed s (request.Load l) t = t
 performed s (request.Store q) t = stored s q t
 
 -- an LN answers its data, an SN the status 0
-abbrev pub answered : ℕ → Request → Tables → Outcome
-answered s (request.Load l) t = outcome.Data (loaded s l t)
-answered s (request.Store q) t = outcome.Status 0
+abbrev pub outcomeAt : ℕ → Request → Tables → Outcome
+outcomeAt s (request.Load l) t = outcome.Data (loaded s l t)
+outcomeAt s (request.Store q) t = outcome.Status 0
 
 pub record Performed (s : ℕ) (r : Request) (before after : Tables) (o : Outcome) : Type 0 where
-  pub answer : o ≡ answered s r before
+  pub outcome : o ≡ outcomeAt s r before
   pub tables : after ≡ performed s r before

@@ -6,7 +6,7 @@ use lib.ListN.{length, getD, take, drop}
 use lib.IntN.{ℤ, pos, negsuc, negℤ}
 use lib.Dec.{ltb, eqb}
 use Rattle.text.specs.Scan.{before}
-use Rattle.text.specs.Whole.{readWhole, shortest, digit}
+use Rattle.text.specs.Whole.{readWhole, shortest, twoDigits}
 use Rattle.text.specs.declared.whole.Whole.{Whole}
 use Rattle.text.specs.declared.whole.Whole.the-variants as whole
 use Rattle.text.specs.declared.hundredths.Magnitude.{Magnitude}
@@ -53,7 +53,7 @@ readHundredths s = cond (eqb (getD s 0 0) 45) (signed true (magnitude (drop 1 s)
 
 -- the shortest whole part, of at most 4 digits, and two decimals
 unfoldable pub magnitudeText : ℕ → List ℕ
-magnitudeText m = shortest (m / 100 % 10000) ++ (46 ∷ (digit 10 (m % 100) ++ digit 1 (m % 100)))
+magnitudeText m = shortest (m / 100 % 10000) ++ (46 ∷ twoDigits (m % 100))
 
 -- "-" only below zero
 unfoldable pub hundredthsText : ℤ → List ℕ

@@ -32,6 +32,10 @@ leading u v = cond (ltb v u) [] (digit u v)
 unfoldable pub shortest : ℕ → List ℕ
 shortest v = leading 1000 v ++ (leading 100 v ++ (leading 10 v ++ digit 1 v))
 
+-- v below 100, always with 2 digits
+abbrev pub twoDigits : ℕ → List ℕ
+twoDigits v = digit 10 v ++ digit 1 v
+
 -- v below 10000, always with 4 digits
 unfoldable pub padded : ℕ → List ℕ
-padded v = digit 1000 v ++ (digit 100 v ++ (digit 10 v ++ digit 1 v))
+padded v = digit 1000 v ++ (digit 100 v ++ twoDigits v)

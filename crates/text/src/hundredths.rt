@@ -3,8 +3,8 @@
 use crate::put::put_byte;
 use crate::scan::find;
 use crate::whole::Whole;
-use crate::whole::put_digit;
 use crate::whole::put_shortest;
+use crate::whole::put_two_digits;
 use crate::whole::read_whole;
 ghost use mathlib.Core.Path.{_≡_};
 ghost use Prim.Native.Nat.{_≤_, _<_, _+_};
@@ -106,9 +106,8 @@ fn put_magnitude(area: &mut [u8], at: usize, m: u32) -> usize
 {
     let cents = (m % 100) as u16;
     let point = put_shortest(area, at, (m / 100 % 10000) as u16);
-    let tens = put_byte(area, point, b'.');
-    let ones = put_digit(area, tens, 10, cents);
-    put_digit(area, ones, 1, cents)
+    let decimals = put_byte(area, point, b'.');
+    put_two_digits(area, decimals, cents)
 }
 
 // Writes v hundredths; of a whole part with more than 4 digits, the last 4.

@@ -4,7 +4,7 @@ ghost use mathlib.Core.Path.{_≡_};
 ghost use Prim.Native.Nat.{_≤_, _<_, _+_};
 ghost use lib.ListN.{length};
 ghost use Rattle.text.specs.Put.{Put};
-ghost use Rattle.text.specs.Whole.{readWhole, digit, leading, shortest, padded};
+ghost use Rattle.text.specs.Whole.{readWhole, digit, leading, shortest, twoDigits, padded};
 
 // What a text is as a whole number.
 pub enum Whole {
@@ -40,7 +40,7 @@ pub fn read_whole(field: &[u8]) -> Whole
 }
 
 // Writes the digit of v that counts units of `unit`.
-pub fn put_digit(area: &mut [u8], at: usize, unit: u16, v: u16) -> usize
+fn put_digit(area: &mut [u8], at: usize, unit: u16, v: u16) -> usize
     requires { ⌜ (0 < unit) × (at < length (now area)) ⌝ }
     ensures { λ r. ⌜ Put (now (area .entry)) at (digit unit v) r (now (area .exit)) ⌝ }
 {
@@ -70,6 +70,15 @@ pub fn put_shortest(area: &mut [u8], at: usize, v: u16) -> usize
     put_digit(area, ones, 1, v)
 }
 
+// Writes v with 2 digits; of 100 or more, the last 2.
+pub fn put_two_digits(area: &mut [u8], at: usize, v: u16) -> usize
+    requires { ⌜ at + 2 ≤ length (now area) ⌝ }
+    ensures { λ r. ⌜ Put (now (area .entry)) at (twoDigits v) r (now (area .exit)) ⌝ }
+{
+    let ones = put_digit(area, at, 10, v);
+    put_digit(area, ones, 1, v)
+}
+
 // Writes v with 4 digits; of 10000 or more, the last 4.
 pub fn put_padded(area: &mut [u8], at: usize, v: u16) -> usize
     requires { ⌜ at + 4 ≤ length (now area) ⌝ }
@@ -77,6 +86,5 @@ pub fn put_padded(area: &mut [u8], at: usize, v: u16) -> usize
 {
     let hundreds = put_digit(area, at, 1000, v);
     let tens = put_digit(area, hundreds, 100, v);
-    let ones = put_digit(area, tens, 10, v);
-    put_digit(area, ones, 1, v)
+    put_two_digits(area, tens, v)
 }

@@ -3,7 +3,7 @@ use mathlib.Core.Path.{sym}
 use borrow.Author.Needs.{needs}
 use borrow.Author.Tests.{lt-ltb, le-ltb, eq-eqb, ne-eqb}
 use Rattle.frame.specs.Frame.{readFrame}
-use Rattle.frame.proofs.Laws.{answers}
+use Rattle.frame.proofs.Laws.{part-is, answers}
 use Rattle.frame.proofs.reader.read_frame.Statement.{statement}
 use Rattle.frame.proofs.reader.read_frame.Tie as tie
 
@@ -77,7 +77,7 @@ returns-5 c =
     let end = sum .before .before in
     let start = end .before .before in
     let sized = start .before .before in
-    simp (le-ltb _ _ (sized .before .if1 .left), le-ltb _ _ (sized .if2 .left), eq-eqb _ _ (start .if3 .left), eq-eqb _ _ (end .if4 .left), sym (sum .lrc .ensures), ne-eqb _ _ (c .before .if5 .taken)) answers
+    simp (le-ltb _ _ (sized .before .if1 .left), le-ltb _ _ (sized .if2 .left), eq-eqb _ _ (start .if3 .left), eq-eqb _ _ (end .if4 .left), sym (rw part-is at (sum .lrc .ensures)), ne-eqb _ _ (c .before .if5 .taken)) answers
 
 sub-read-inner : tie.Need-sub-read-inner
 sub-read-inner c = search needs
@@ -99,7 +99,7 @@ returns-6 c =
     let end = sum .before .before in
     let start = end .before .before in
     let sized = start .before .before in
-    simp (le-ltb _ _ (sized .before .if1 .left), le-ltb _ _ (sized .if2 .left), eq-eqb _ _ (start .if3 .left), eq-eqb _ _ (end .if4 .left), sym (sum .lrc .ensures), eq-eqb _ _ (sound .if5 .left)) (c .read-inner .ensures)
+    simp (le-ltb _ _ (sized .before .if1 .left), le-ltb _ _ (sized .if2 .left), eq-eqb _ _ (start .if3 .left), eq-eqb _ _ (end .if4 .left), sym (rw part-is at (sum .lrc .ensures)), eq-eqb _ _ (sound .if5 .left)) (rw part-is at (c .read-inner .ensures))
 
 pub read-frame-spec : {M : Type 1} → statement M
 read-frame-spec =

@@ -1,34 +1,30 @@
-use Prim.Native.Nat.{ℕ, suc, _+_, _-_, _≤_, _<_}
-use mathlib.Core.Path.{_≡_, refl, ap, subst, _∙_}
+use Prim.Native.Nat.{ℕ, suc, _+_, _≤_, _<_}
+use mathlib.Core.Path.{_≡_, ap, subst, _∙_}
 use mathlib.Core.List.{List, [], _∷_, _++_}
 use native.Mathlib.Omega.{arith}
 use borrow.Author.Needs.{needs}
-use lib.ListN.{length, take, drop, set}
-use lib.Seq.{slice, take-nil, take-suc-set, drop-append-le, length-take-le}
+use lib.ListN.{length, take, set}
+use lib.Seq.{slice, take-suc-set, drop-append-le, length-take-le}
 use Rattle.text.specs.Put.{Put}
 use Rattle.text.proofs.Laws.{put-then}
 use Rattle.frame.specs.Checksum.{lrcOf}
-use Rattle.frame.specs.Frame.{between, closing}
+use Rattle.frame.specs.Frame.{closing}
+use Rattle.frame.proofs.Laws.{part-is}
 use Rattle.frame.proofs.writer.close_frame.Statement.{statement}
 use Rattle.frame.proofs.writer.close_frame.Tie as tie
 
--- the part from index 1 on, cut at its start or at its end first
-tail : (n : ℕ) (s : List ℕ) → take n (drop 1 s) ≡ slice 1 (suc n) s
-tail n [] = take-nil n
-tail n (b ∷ bs) = refl
-
 -- the part that the LRC is taken of, where ETX was written at `e`
-summed : (xs : List ℕ) (e last : ℕ) → 1 ≤ e → e < length xs → last ≡ e + 1 → between 1 last (set xs e 3) ≡ slice 1 e xs ++ (3 ∷ [])
+summed : (xs : List ℕ) (e last : ℕ) → 1 ≤ e → e < length xs → last ≡ e + 1 → slice 1 last (set xs e 3) ≡ slice 1 e xs ++ (3 ∷ [])
 summed xs e last h k q =
-    let n : suc (last - 1) ≡ suc e = omega arith in
+    let n : last ≡ suc e = omega arith in
     let l : 1 ≤ length (take e xs) = rw (length-take-le e xs (omega arith)) h in
-    tail (last - 1) (set xs e 3) ∙ rw (n, take-suc-set xs e 3 k) (drop-append-le 1 (take e xs) (3 ∷ []) l)
+    rw (n, take-suc-set xs e 3 k) (drop-append-le 1 (take e xs) (3 ∷ []) l)
 
 -- ETX, and the LRC of what then stands after STX, are a closing
-closed : {xs ys zs : List ℕ} {e last sum r : ℕ} → 1 ≤ e → e < length xs → Put xs e (3 ∷ []) last ys → sum ≡ lrcOf (between 1 last ys) → Put ys last (sum ∷ []) r zs → Put xs e (closing (slice 1 e xs)) r zs
+closed : {xs ys zs : List ℕ} {e last sum r : ℕ} → 1 ≤ e → e < length xs → Put xs e (3 ∷ []) last ys → sum ≡ lrcOf (slice 1 last ys) → Put ys last (sum ∷ []) r zs → Put xs e (closing (slice 1 e xs)) r zs
 unfolding closing
 closed {xs} {ys} {zs} {e} {last} {sum} {r} h k p s q =
-    let t : between 1 last ys ≡ slice 1 e xs ++ (3 ∷ []) = rw (p .area) (summed xs e last h k (p .next)) in
+    let t : slice 1 last ys ≡ slice 1 e xs ++ (3 ∷ []) = rw (p .area) (summed xs e last h k (p .next)) in
     put-then p (subst (λ (b : ℕ). Put ys last (b ∷ []) r zs) (s ∙ ap lrcOf t) q)
 
 put-byte-requires : tie.Need-put-byte-requires
@@ -57,7 +53,7 @@ returns c =
     let q = c .before .before in
     let l = q .before .before in
     let p = l .before .before .before .before .before in
-    closed (omega arith) (omega arith) (p .put-byte .ensures) (l .lrc .ensures) (q .put-byte2 .ensures)
+    closed (omega arith) (omega arith) (p .put-byte .ensures) (rw part-is at (l .lrc .ensures)) (q .put-byte2 .ensures)
 
 pub close-frame-spec : {M : Type 1} → statement M
 close-frame-spec =

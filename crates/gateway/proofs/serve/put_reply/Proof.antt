@@ -7,7 +7,7 @@ use lib.ListN.{length}
 use Rattle.text.proofs.Digits.{shortest-short}
 use Rattle.frame.proofs.Writing.{opening-length, framed}
 use Rattle.harl.specs.Reply.{outcomeText}
-use Rattle.harl.proofs.Bodies.{outcome-length, frame-fits}
+use Rattle.harl.proofs.Bodies.{outcome-length, performed-text, frame-fits}
 use Rattle.gateway.proofs.serve.put_reply.Statement.{statement}
 use Rattle.gateway.proofs.serve.put_reply.Tie as tie
 
@@ -39,8 +39,9 @@ returns c =
     let o = b .before .before .before .before in
     let a = o .before .before .before .args in
     let short : length (outcomeText true (a .outcome)) ≤ 27 = omega (arith, outcome-length true (a .outcome) .1) in
-    framed (a .station) (o .open-frame .ensures) (b .put-outcome .ensures) (f .close-frame .ensures)
-    (omega (arith, frame-fits (a .station) (outcomeText true (a .outcome)) short))
+    rw performed-text at
+    (framed (a .station) (o .open-frame .ensures) (b .put-outcome .ensures) (f .close-frame .ensures)
+    (omega (arith, frame-fits (a .station) (outcomeText true (a .outcome)) short)))
 
 pub put-reply-spec : {M : Type 1} → statement M
 put-reply-spec =

@@ -8,12 +8,14 @@ use borrow.Author.Tests.{lt-ltb, le-ltb, eq-eqb, ne-eqb}
 use lib.ListN.{length}
 use Rattle.frame.specs.Frame.{Read, readFrame}
 use Rattle.harl.specs.declared.message.Sent.{Sent}
+use Rattle.harl.specs.Body.{readBody}
 use Rattle.harl.proofs.Bodies.{wrote-none}
 use Rattle.tables.specs.Tables.{Tables}
 use Rattle.gateway.specs.declared.serve.Found.the-variants as found
 use Rattle.model.specs.Call.{serve}
-use Rattle.model.specs.Box.{Slot, nowhere, at, slotOf, unanswered, decide, perform, respond, after, answer}
-use Rattle.gateway.specs.Entries.{box, asFound, foundIn, decided, BodyServed, Served}
+use Rattle.model.specs.Box.{Slot, nowhere, at, slotOf, unanswered, decideBody, decide, perform, respond, after, answer}
+use Rattle.gateway.specs.Entries.{box, Served}
+use Rattle.gateway.specs.Serving.{asFound, foundIn, BodyServed}
 use Rattle.model.proofs.Slots.{slot-at}
 use Rattle.gateway.proofs.serve.serve.Statement.{statement}
 use Rattle.gateway.proofs.serve.serve.Tie as tie
@@ -46,7 +48,7 @@ module _ (st slice : List ℕ) (room : ℕ) (h : 64 ≤ room) {n s : ℕ} {body 
   unfolding decide
   absent z e = rw (le-ltb room 64 h, ← r .number-is, eq-eqb n 0 z, ← r .station-is, found-none (slotOf st s) e)
 
-  present : n ≡ 0 → (k : ℕ) → foundIn st s ≡ found.At k → decide st (serve slice room) ≡ decided k s body
+  present : n ≡ 0 → (k : ℕ) → foundIn st s ≡ found.At k → decide st (serve slice room) ≡ decideBody k s (readBody body)
   unfolding decide
   present z k e = rw (le-ltb room 64 h, ← r .number-is, eq-eqb n 0 z, ← r .station-is, ← r .body-is, found-at (slotOf st s) k e)
 
@@ -61,7 +63,7 @@ module _ {st slice xs : List ℕ} {t : Tables} where
         tables-are = rw e;
       }
 
-  body-served : {k s : ℕ} {body ys : List ℕ} {sent : Sent} {t′ : Tables} → decide st (serve slice (length xs)) ≡ decided k s body → BodyServed k s body t xs sent t′ ys → Served (box st t) slice xs sent t′ ys
+  body-served : {k s : ℕ} {body ys : List ℕ} {sent : Sent} {t′ : Tables} → decide st (serve slice (length xs)) ≡ decideBody k s (readBody body) → BodyServed k s body t xs sent t′ ys → Served (box st t) slice xs sent t′ ys
   unfolding answer after perform
   body-served e b = record { answer-is = rw e (b .answer-is st); tables-are = rw e (b .tables-are) }
 

@@ -12,13 +12,13 @@ use Rattle.commands.specs.declared.request.Request.{Request}
 use Rattle.harl.specs.declared.body.Judged.the-variants.{Accepted, Refused}
 use Rattle.harl.specs.declared.reply.Outcome.{Outcome}
 use Rattle.harl.specs.Body.{readBody}
-use Rattle.harl.specs.Reply.{outcomeText, refusalText}
+use Rattle.harl.specs.Reply.{performedText, refusalText}
 use Rattle.harl.specs.Message.{Wrote}
 use Rattle.tables.specs.Tables.{Tables, performed, Performed}
 use Rattle.model.specs.Box.{respond}
-use Rattle.gateway.specs.Entries.{BodyServed}
+use Rattle.gateway.specs.Serving.{BodyServed}
 use Rattle.harl.proofs.Accepted.{accepted-in-range}
-use Rattle.harl.proofs.Bodies.{outcome-length, refusal-length, frame-fits, wrote-all}
+use Rattle.harl.proofs.Bodies.{outcome-length, performed-text, refusal-length, frame-fits, wrote-all}
 use Rattle.gateway.proofs.serve.serve_body.Statement.{statement}
 use Rattle.gateway.proofs.serve.serve_body.Tie as tie
 
@@ -27,11 +27,11 @@ put-wrote : {n m : ℕ} {xs ys : List ℕ} (s : ℕ) (text : List ℕ) → lengt
 put-wrote s text short room w = wrote-all w (omega (arith, frame-fits s text (omega arith)))
 
 module _ {k s : ℕ} {body : List ℕ} {t : Tables} {xs ys : List ℕ} {m : ℕ} (room : 64 ≤ length xs) where
-  asked-served : {r : Request} {o : Outcome} {t′ : Tables} → readBody body ≡ Accepted r → Performed k r t t′ o → Put xs 0 (frameOf s (outcomeText true o)) m ys → BodyServed k s body t xs (record { number = 0; length = m }) t′ ys
+  asked-served : {r : Request} {o : Outcome} {t′ : Tables} → readBody body ≡ Accepted r → Performed k r t t′ o → Put xs 0 (frameOf s (performedText o)) m ys → BodyServed k s body t xs (record { number = 0; length = m }) t′ ys
   unfolding respond
   asked-served {r} {o} e p w =
       record {
-        answer-is = λ st. rw (e, ← p .answer) (put-wrote s (outcomeText true o) (outcome-length true o .1) room w);
+        answer-is = λ st. rw (e, ← p .outcome) (put-wrote s (performedText o) (rw performed-text at (outcome-length true o .1)) room w);
         tables-are = rw e (p .tables);
       }
 

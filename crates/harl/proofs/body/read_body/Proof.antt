@@ -81,8 +81,8 @@ read-shape-requires c κs = search needs
 enum-known-shape : tie.Need-enum-known-shape
 enum-known-shape c = search needs
 
-decide-requires : tie.Need-decide-requires
-decide-requires c κs = search needs
+request-or-refusal-requires : tie.Need-request-or-refusal-requires
+request-or-refusal-requires c κs = search needs
 
 enum-told-2 : tie.Need-enum-told-2
 enum-told-2 c = search needs
@@ -95,7 +95,7 @@ returns-3 c =
     let name = k .before .before in
     let e = name .before .before in
     let t = e .before .before .args .body .now in
-    rw (followed t (e .end-of .result) (e .end-of .ensures .0) (k .command .given .0 .0) (sym (name .command-of .ensures) ∙ k .command .given .1) (s .before .before .if1 .left), ← r .rule-of .ensures, ← rest (e .end-of .result + 1) t, ← s .read-shape .ensures, c .before .before .shape .given .1) (c .decide .ensures)
+    rw (followed t (e .end-of .result) (e .end-of .ensures .0) (k .command .given .0 .0) (sym (name .command-of .ensures) ∙ k .command .given .1) (s .before .before .if1 .left), ← r .rule-of .ensures, ← rest (e .end-of .result + 1) t, ← s .read-shape .ensures, c .before .before .shape .given .1) (c .request-or-refusal .ensures)
 
 returns-4 : tie.Need-returns-4
 returns-4 c =
@@ -125,7 +125,7 @@ read-body-spec =
     part-read-shape-end
     read-shape-requires
     enum-known-shape
-    decide-requires
+    request-or-refusal-requires
     enum-told-2
     returns-3
     returns-4)

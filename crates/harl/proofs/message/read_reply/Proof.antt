@@ -2,7 +2,6 @@
 use borrow.Author.Needs.{needs}
 use borrow.Author.Tests.{eq-eqb, ne-eqb}
 use Rattle.harl.specs.Message.{readReply}
-use Rattle.harl.proofs.Laws.{reply-read}
 use Rattle.harl.proofs.message.read_reply.Statement.{statement}
 use Rattle.harl.proofs.message.read_reply.Tie as tie
 
@@ -11,7 +10,7 @@ judge-asked-requires c κs = search needs
 
 returns : tie.Need-returns
 unfolding readReply
-returns c = reply-read (rw (← c .before .judge-asked .ensures, ne-eqb _ _ (c .if1 .taken)))
+returns c = rw (← c .before .judge-asked .ensures, ne-eqb _ _ (c .if1 .taken))
 
 read-frame-requires : tie.Need-read-frame-requires
 read-frame-requires c κs = search needs
@@ -21,16 +20,14 @@ unfolding readReply
 returns-2 c =
     let f = c .before in
     let j = f .before .before .before .before in
-    reply-read
-    (rw (← j .judge-asked .ensures, eq-eqb _ _ (f .before .before .before .if1 .left), ← f .read-frame .ensures .number-is, ne-eqb _ _ (c .if2 .taken)))
+    rw (← j .judge-asked .ensures, eq-eqb _ _ (f .before .before .before .if1 .left), ← f .read-frame .ensures .number-is, ne-eqb _ _ (c .if2 .taken))
 
 returns-3 : tie.Need-returns-3
 unfolding readReply
 returns-3 c =
     let f = c .before .before in
     let j = f .before .before .before .before in
-    reply-read
-    (rw (← j .judge-asked .ensures, eq-eqb _ _ (f .before .before .before .if1 .left), ← f .read-frame .ensures .number-is, eq-eqb _ _ (c .before .if2 .left), ← f .read-frame .ensures .station-is, ne-eqb _ _ (c .if3 .taken)))
+    rw (← j .judge-asked .ensures, eq-eqb _ _ (f .before .before .before .if1 .left), ← f .read-frame .ensures .number-is, eq-eqb _ _ (c .before .if2 .left), ← f .read-frame .ensures .station-is, ne-eqb _ _ (c .if3 .taken))
 
 parts-of-requires : tie.Need-parts-of-requires
 parts-of-requires c κs = search needs
@@ -54,8 +51,7 @@ returns-4 c =
     let p = o .before .before in
     let f = p .before .before .before in
     let j = f .before .before .before .before in
-    reply-read
-    (rw (← j .judge-asked .ensures, eq-eqb _ _ (f .before .before .before .if1 .left), ← f .read-frame .ensures .number-is, eq-eqb _ _ (p .before .before .if2 .left), ← f .read-frame .ensures .station-is, eq-eqb _ _ (p .before .if3 .left), ← f .read-frame .ensures .body-is, ← p .parts-of .ensures, ← o .before .rule-of .ensures, ← o .read-outcome .ensures, c .before .carried .given .1))
+    rw (← j .judge-asked .ensures, eq-eqb _ _ (f .before .before .before .if1 .left), ← f .read-frame .ensures .number-is, eq-eqb _ _ (p .before .before .if2 .left), ← f .read-frame .ensures .station-is, eq-eqb _ _ (p .before .if3 .left), ← f .read-frame .ensures .body-is, ← p .parts-of .ensures, ← o .before .rule-of .ensures, ← o .read-outcome .ensures, c .before .carried .given .1)
 
 returns-5 : tie.Need-returns-5
 unfolding readReply
@@ -64,8 +60,7 @@ returns-5 c =
     let p = o .before .before in
     let f = p .before .before .before in
     let j = f .before .before .before .before in
-    reply-read
-    (rw (← j .judge-asked .ensures, eq-eqb _ _ (f .before .before .before .if1 .left), ← f .read-frame .ensures .number-is, eq-eqb _ _ (p .before .before .if2 .left), ← f .read-frame .ensures .station-is, eq-eqb _ _ (p .before .if3 .left), ← f .read-frame .ensures .body-is, ← p .parts-of .ensures, ← o .before .rule-of .ensures, ← o .read-outcome .ensures, c .enum-told .given .1))
+    rw (← j .judge-asked .ensures, eq-eqb _ _ (f .before .before .before .if1 .left), ← f .read-frame .ensures .number-is, eq-eqb _ _ (p .before .before .if2 .left), ← f .read-frame .ensures .station-is, eq-eqb _ _ (p .before .if3 .left), ← f .read-frame .ensures .body-is, ← p .parts-of .ensures, ← o .before .rule-of .ensures, ← o .read-outcome .ensures, c .enum-told .given .1)
 
 pub read-reply-spec : {M : Type 1} → statement M
 read-reply-spec =

@@ -2,7 +2,6 @@
 use borrow.Author.Needs.{needs}
 use borrow.Author.Tests.{eq-eqb, ne-eqb}
 use Rattle.harl.specs.Message.{readRequest}
-use Rattle.harl.proofs.Laws.{request-read}
 use Rattle.harl.proofs.message.read_request.Statement.{statement}
 use Rattle.harl.proofs.message.read_request.Tie as tie
 
@@ -11,7 +10,7 @@ read-frame-requires c κs = search needs
 
 returns : tie.Need-returns
 unfolding readRequest
-returns c = request-read (rw (← c .before .read-frame .ensures .number-is, ne-eqb _ _ (c .if1 .taken)))
+returns c = rw (← c .before .read-frame .ensures .number-is, ne-eqb _ _ (c .if1 .taken))
 
 read-body-requires : tie.Need-read-body-requires
 read-body-requires c κs = search needs
@@ -27,16 +26,14 @@ unfolding readRequest
 returns-2 c =
     let b = c .before .before .before in
     let f = b .before .before in
-    request-read
-    (rw (← f .read-frame .ensures .number-is, eq-eqb _ _ (b .before .if1 .left), ← f .read-frame .ensures .station-is, ← f .read-frame .ensures .body-is, ← b .read-body .ensures, c .before .judged .given .1))
+    rw (← f .read-frame .ensures .number-is, eq-eqb _ _ (b .before .if1 .left), ← f .read-frame .ensures .station-is, ← f .read-frame .ensures .body-is, ← b .read-body .ensures, c .before .judged .given .1)
 
 returns-3 : tie.Need-returns-3
 unfolding readRequest
 returns-3 c =
     let b = c .before .before .before in
     let f = b .before .before in
-    request-read
-    (rw (← f .read-frame .ensures .number-is, eq-eqb _ _ (b .before .if1 .left), ← f .read-frame .ensures .body-is, ← b .read-body .ensures, c .before .judged2 .given .1))
+    rw (← f .read-frame .ensures .number-is, eq-eqb _ _ (b .before .if1 .left), ← f .read-frame .ensures .body-is, ← b .read-body .ensures, c .before .judged2 .given .1)
 
 pub read-request-spec : {M : Type 1} → statement M
 read-request-spec =

@@ -20,53 +20,38 @@ returns : tie.Need-returns
 unfolding statusText digit
 returns c = rw (c .before .before .before .before .before .before .if1 .taken, c .before .before .before .before .before .if2 .taken) (c .before .before .put-bytes .ensures)
 
-put-digit-requires : tie.Need-put-digit-requires
+put-two-digits-requires : tie.Need-put-two-digits-requires
 unfolding statusText digit
-put-digit-requires c κs = (omega arith, omega (arith, rw (c .before .before .if1 .taken) at (c .before .before .before .before .pre)))
-
-put-digit-requires-2 : tie.Need-put-digit-requires-2
-unfolding statusText digit
-put-digit-requires-2 c κs =
-    let t = c .before .before .before in
-    (omega arith, omega (arith, rw (t .before .before .before .if1 .taken) at (t .before .before .before .before .before .pre), t .put-digit .kept .0, t .put-digit .ensures .next))
+put-two-digits-requires c κs = omega (arith, rw (c .before .before .if1 .taken) at (c .before .before .before .before .pre))
 
 same-length-2 : tie.Need-same-length-2
 same-length-2 c = search needs
 
 returns-2 : tie.Need-returns-2
-unfolding statusText digit
+unfolding statusText
 returns-2 c =
-    let o = c .before .before in
-    let t = o .before .before .before .before in
-    rw (t .before .before .before .if1 .taken) (put-then (t .put-digit .ensures) (o .put-digit2 .ensures))
+    let d = c .before .before in
+    rw (d .before .before .before .if1 .taken) (d .put-two-digits .ensures)
 
 put-byte-requires : tie.Need-put-byte-requires
 unfolding statusText digit
 put-byte-requires c κs = omega (arith, rw (c .before .if1 .left) at (c .before .before .before .pre))
 
-put-digit-requires-3 : tie.Need-put-digit-requires-3
+put-two-digits-requires-2 : tie.Need-put-two-digits-requires-2
 unfolding statusText digit
-put-digit-requires-3 c κs =
+put-two-digits-requires-2 c κs =
     let e = c .before .before .before in
-    (omega arith, omega (arith, rw (e .before .before .if1 .left) at (e .before .before .before .before .pre), e .put-byte .kept .0, e .put-byte .ensures .next))
-
-put-digit-requires-4 : tie.Need-put-digit-requires-4
-unfolding statusText digit
-put-digit-requires-4 c κs =
-    let t = c .before .before .before in
-    let e = t .before .before .before .before in
-    (omega arith, omega (arith, rw (e .before .before .if1 .left) at (e .before .before .before .before .pre), e .put-byte .kept .0, e .put-byte .ensures .next, t .put-digit3 .kept .0, t .put-digit3 .ensures .next))
+    omega (arith, rw (e .before .before .if1 .left) at (e .before .before .before .before .pre), e .put-byte .kept .0, e .put-byte .ensures .next)
 
 same-length-3 : tie.Need-same-length-3
 same-length-3 c = search needs
 
 returns-3 : tie.Need-returns-3
-unfolding statusText digit
+unfolding statusText
 returns-3 c =
-    let o = c .before .before in
-    let t = o .before .before .before .before in
-    let e = t .before .before .before .before in
-    rw (e .before .before .if1 .left) (put-then (e .put-byte .ensures) (put-then (t .put-digit3 .ensures) (o .put-digit4 .ensures)))
+    let d = c .before .before in
+    let e = d .before .before .before .before in
+    rw (e .before .before .if1 .left) (put-then (e .put-byte .ensures) (d .put-two-digits2 .ensures))
 
 pub put-status-spec : {M : Type 1} → statement M
 put-status-spec =
@@ -76,12 +61,10 @@ put-status-spec =
     put-bytes-requires
     same-length
     returns
-    put-digit-requires
-    put-digit-requires-2
+    put-two-digits-requires
     same-length-2
     returns-2
     put-byte-requires
-    put-digit-requires-3
-    put-digit-requires-4
+    put-two-digits-requires-2
     same-length-3
     returns-3)

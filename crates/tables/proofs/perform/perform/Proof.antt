@@ -25,12 +25,12 @@ run-store-requires c κs =
 returns : tie.Need-returns
 returns c =
     rw (c .before .before .before .before .before .before .before .before .before .request .given .1)
-    (record { answer = ap outcome.Data (c .run-load .ensures); tables = refl })
+    (record { outcome = ap outcome.Data (c .run-load .ensures); tables = refl })
 
 returns-2 : tie.Need-returns-2
 returns-2 c =
     rw (c .before .before .before .before .before .before .before .before .before .request2 .given .1)
-    (record { answer = refl; tables = c .run-store .ensures })
+    (record { outcome = refl; tables = c .run-store .ensures })
 
 pub perform-spec : {M : Type 1} → statement M
 perform-spec =

@@ -1,9 +1,7 @@
 use native.Mathlib.Omega.{arith}
 use borrow.Author.Needs.{needs}
-use Prim.Native.Nat.{_%_}
 use Rattle.text.specs.Hundredths.{magnitudeText}
 use Rattle.text.proofs.Laws.{put-then}
-use Rattle.text.proofs.Digits.{digit-length}
 use Rattle.text.proofs.Decimals.{magnitude-length}
 use Rattle.text.proofs.hundredths.put_magnitude.Statement.{statement}
 use Rattle.text.proofs.hundredths.put_magnitude.Tie as tie
@@ -23,20 +21,12 @@ put-byte-requires c κs =
     let m = p .before .before .before .args .m in
     omega (arith, magnitude-length m, p .put-shortest .kept .0, p .put-shortest .ensures .next)
 
-put-digit-requires : tie.Need-put-digit-requires
-put-digit-requires c κs =
+put-two-digits-requires : tie.Need-put-two-digits-requires
+put-two-digits-requires c κs =
     let q = c .before .before .before in
     let p = q .before .before .before .before in
     let m = p .before .before .before .args .m in
-    (omega arith, omega (arith, magnitude-length m, p .put-shortest .kept .0, p .put-shortest .ensures .next, q .put-byte .kept .0, q .put-byte .ensures .next))
-
-put-digit-requires-2 : tie.Need-put-digit-requires-2
-put-digit-requires-2 c κs =
-    let r = c .before .before .before in
-    let q = r .before .before .before .before in
-    let p = q .before .before .before .before in
-    let m = p .before .before .before .args .m in
-    (omega arith, omega (arith, magnitude-length m, digit-length 10 (m % 100), p .put-shortest .kept .0, p .put-shortest .ensures .next, q .put-byte .kept .0, q .put-byte .ensures .next, r .put-digit .kept .0, r .put-digit .ensures .next))
+    omega (arith, magnitude-length m, p .put-shortest .kept .0, p .put-shortest .ensures .next, q .put-byte .kept .0, q .put-byte .ensures .next)
 
 same-length : tie.Need-same-length
 same-length c = search needs
@@ -45,10 +35,9 @@ returns : tie.Need-returns
 unfolding magnitudeText
 returns c =
     let d = c .before .before in
-    let r = d .before .before .before .before in
-    let q = r .before .before .before .before in
+    let q = d .before .before .before .before in
     let p = q .before .before .before .before in
-    put-then (p .put-shortest .ensures) (put-then (q .put-byte .ensures) (put-then (r .put-digit .ensures) (d .put-digit2 .ensures)))
+    put-then (p .put-shortest .ensures) (put-then (q .put-byte .ensures) (d .put-two-digits .ensures))
 
 pub put-magnitude-spec : {M : Type 1} → statement M
 put-magnitude-spec =
@@ -58,7 +47,6 @@ put-magnitude-spec =
     cast-put-shortest
     put-shortest-requires
     put-byte-requires
-    put-digit-requires
-    put-digit-requires-2
+    put-two-digits-requires
     same-length
     returns)

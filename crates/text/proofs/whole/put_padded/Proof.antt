@@ -15,20 +15,12 @@ put-digit-requires-2 c κs =
     let v = p .before .before .before .args .v in
     (omega arith, omega (arith, digit-length 1000 v, p .put-digit .kept .0, p .put-digit .ensures .next))
 
-put-digit-requires-3 : tie.Need-put-digit-requires-3
-put-digit-requires-3 c κs =
+put-two-digits-requires : tie.Need-put-two-digits-requires
+put-two-digits-requires c κs =
     let q = c .before .before .before in
     let p = q .before .before .before .before in
     let v = p .before .before .before .args .v in
-    (omega arith, omega (arith, digit-length 1000 v, p .put-digit .kept .0, p .put-digit .ensures .next, digit-length 100 v, q .put-digit2 .kept .0, q .put-digit2 .ensures .next))
-
-put-digit-requires-4 : tie.Need-put-digit-requires-4
-put-digit-requires-4 c κs =
-    let r = c .before .before .before in
-    let q = r .before .before .before .before in
-    let p = q .before .before .before .before in
-    let v = p .before .before .before .args .v in
-    (omega arith, omega (arith, digit-length 1000 v, p .put-digit .kept .0, p .put-digit .ensures .next, digit-length 100 v, q .put-digit2 .kept .0, q .put-digit2 .ensures .next, digit-length 10 v, r .put-digit3 .kept .0, r .put-digit3 .ensures .next))
+    omega (arith, digit-length 1000 v, p .put-digit .kept .0, p .put-digit .ensures .next, digit-length 100 v, q .put-digit2 .kept .0, q .put-digit2 .ensures .next)
 
 same-length : tie.Need-same-length
 same-length c = search needs
@@ -37,10 +29,9 @@ returns : tie.Need-returns
 unfolding padded
 returns c =
     let d = c .before .before in
-    let r = d .before .before .before .before in
-    let q = r .before .before .before .before in
+    let q = d .before .before .before .before in
     let p = q .before .before .before .before in
-    put-then (p .put-digit .ensures) (put-then (q .put-digit2 .ensures) (put-then (r .put-digit3 .ensures) (d .put-digit4 .ensures)))
+    put-then (p .put-digit .ensures) (put-then (q .put-digit2 .ensures) (d .put-two-digits .ensures))
 
 pub put-padded-spec : {M : Type 1} → statement M
 put-padded-spec =
@@ -48,7 +39,6 @@ put-padded-spec =
     (tie.spec
     put-digit-requires
     put-digit-requires-2
-    put-digit-requires-3
-    put-digit-requires-4
+    put-two-digits-requires
     same-length
     returns)

@@ -8,8 +8,7 @@ use Rattle.commands.specs.declared.request.Request.{Request}
 use Rattle.commands.specs.declared.request.Request.the-variants as request
 use Rattle.harl.specs.declared.reply.Outcome.{Outcome}
 use Rattle.harl.specs.declared.reply.Outcome.the-variants as outcome
-use Rattle.harl.specs.declared.message.Answered.the-variants as answered
-use Rattle.harl.specs.Message.{writeRequest, readReply}
+use Rattle.harl.specs.Message.{writeRequest, theOutcome, readReply}
 use Rattle.model.specs.Call.{Call, serve}
 use Rattle.model.specs.Box.{Box, setup, after, answer, run}
 use Rattle.model.specs.Lone.{Arm, holds, replaced}
@@ -31,12 +30,12 @@ pub record Exchanged (b : Box) (k s : ℕ) (r : Request) (c : Call) : Type 0 whe
   -- it is not refused
   pub number : answer b c .number ≡ 0
   -- its reply is read as what the arm answers
-  pub reply : readReply (answer b c .reply) s r ≡ answered.Accepted (outcomeOf (armOf k b) r)
+  pub reply : readReply (answer b c .reply) s r ≡ theOutcome (outcomeOf (armOf k b) r)
   -- the arm keeps what is stored
   pub arm : armOf k (after b c) ≡ armAfter (armOf k b) r
 
 -- after any setup and any list of calls that bring bytes, for every fitted slot and every request that can be written
--- to its station; area and room are the lengths of the areas for the request and the reply (proved in proofs/Link.antt)
+-- to its station; area and room are the lengths of the areas for the request and the reply (proved in proofs/EndToEnd.antt)
 abbrev pub EndToEnd : Type 0
 EndToEnd =
     (want : List ℕ) (cs : List Call) (k : ℕ) (r : Request) (area room : ℕ)

@@ -18,13 +18,13 @@ pub record Run : Type 0 where
   pub turns : List Turn
 
 -- the same calls, with the answers that the box gives
-unfoldable pub answered : Box → List Turn → List Turn
-answered b [] = []
-answered b (t ∷ ts) = record { call = t .call; answer = answer b (t .call) } ∷ answered (after b (t .call)) ts
+unfoldable pub replayedTurns : Box → List Turn → List Turn
+replayedTurns b [] = []
+replayedTurns b (t ∷ ts) = record { call = t .call; answer = answer b (t .call) } ∷ replayedTurns (after b (t .call)) ts
 
 -- the same run, as the box goes through it
 abbrev pub replayed : Run → Run
-replayed r = record { want = r .want; number = setupNumber (r .want); turns = answered (setup (r .want)) (r .turns) }
+replayed r = record { want = r .want; number = setupNumber (r .want); turns = replayedTurns (setup (r .want)) (r .turns) }
 
 -- a request to a station, the number given, and the body of the reply
 abbrev pub asks : ℕ → List ℕ → ℕ → List ℕ → Turn
@@ -39,8 +39,8 @@ abbrev pub lnd : List ℕ
 lnd = 76 ∷ 78 ∷ 68 ∷ 32 ∷ 53 ∷ []
 
 -- arm 2 has a register 5 of its own
-abbrev pub registers : List Turn
-registers =
+abbrev pub registerTurns : List Turn
+registerTurns =
     -- SND 5 0042: 00
     asks 1 (83 ∷ 78 ∷ 68 ∷ 32 ∷ 53 ∷ 32 ∷ 48 ∷ 48 ∷ 52 ∷ 50 ∷ []) 0 (48 ∷ 48 ∷ []) ∷
     -- LND 5: 0000
@@ -50,8 +50,8 @@ registers =
     []
 
 -- row 99 of arm 1 is followed by no other, and a refused SNL leaves no half of a row
-abbrev pub rows : List Turn
-rows =
+abbrev pub rowTurns : List Turn
+rowTurns =
     -- SNL 99 -9999.99 0.05: 00
     asks 1 (83 ∷ 78 ∷ 76 ∷ 32 ∷ 57 ∷ 57 ∷ 32 ∷ 45 ∷ 57 ∷ 57 ∷ 57 ∷ 57 ∷ 46 ∷ 57 ∷ 57 ∷ 32 ∷ 48 ∷ 46 ∷ 48 ∷ 53 ∷ [])
     0 (48 ∷ 48 ∷ []) ∷
@@ -68,8 +68,8 @@ rows =
     []
 
 -- slot 2 has arm 3; a signal is a bit of its port
-abbrev pub ports : List Turn
-ports =
+abbrev pub portTurns : List Turn
+portTurns =
     gives (input 2 31 200) 0 ∷
     -- LNID 31: 200
     asks 3 (76 ∷ 78 ∷ 73 ∷ 68 ∷ 32 ∷ 51 ∷ 49 ∷ []) 0 (50 ∷ 48 ∷ 48 ∷ []) ∷
@@ -84,8 +84,8 @@ ports =
     []
 
 -- no reply: station 9 is absent, which is judged after its LRC; a room of 63 bytes; no slot 4; no port 32
-abbrev pub unansweredCalls : List Turn
-unansweredCalls =
+abbrev pub unansweredTurns : List Turn
+unansweredTurns =
     gives (serve (frameOf 9 lnd) 64) 8 ∷
     gives (serve (2 ∷ 57 ∷ 32 ∷ (lnd ++ (3 ∷ 0 ∷ []))) 64) 5 ∷
     gives (serve (frameOf 1 lnd) 63) 1 ∷
@@ -96,7 +96,7 @@ unansweredCalls =
 -- four arms; station 1 twice, so that no arm is fitted; a station above 99; one arm, in slot 1
 abbrev pub runs : List Run
 runs =
-    record { want = 1 ∷ 2 ∷ 3 ∷ 4 ∷ []; number = 0; turns = registers ++ (rows ++ (ports ++ unansweredCalls)) } ∷
+    record { want = 1 ∷ 2 ∷ 3 ∷ 4 ∷ []; number = 0; turns = registerTurns ++ (rowTurns ++ (portTurns ++ unansweredTurns)) } ∷
     record { want = 1 ∷ 2 ∷ 1 ∷ 0 ∷ []; number = 13; turns = gives (serve (frameOf 1 lnd) 64) 8 ∷ gives (input 0 0 1) 14 ∷ [] } ∷
     record { want = 100 ∷ 0 ∷ 0 ∷ 0 ∷ []; number = 13; turns = [] } ∷
     record { want = 0 ∷ 7 ∷ 0 ∷ 0 ∷ []; number = 0; turns = gives (input 0 0 1) 14 ∷ gives (input 1 0 1) 0 ∷ [] } ∷

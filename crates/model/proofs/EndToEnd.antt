@@ -22,7 +22,7 @@ use Rattle.model.specs.Lone.{Arm, holds, answerRequest, step}
 use Rattle.model.specs.Addressed.{Fitted, isFor, armOf}
 use Rattle.model.specs.Shaped.{Shaped}
 use Rattle.model.specs.Ranges.{InRange}
-use Rattle.model.specs.Link.{outcomeOf, armAfter, Exchanged, EndToEnd}
+use Rattle.model.specs.EndToEnd.{outcomeOf, armAfter, Exchanged, EndToEnd}
 use Rattle.model.proofs.Laws.{one-in, row-in, bit-in, written-frame, written-in, fitting-in, outcome-back}
 use Rattle.model.proofs.Slots.{Apart, setup-apart}
 use Rattle.model.proofs.Isolation.{after-same, run-stations, always-shaped}

@@ -3,9 +3,9 @@ use mathlib.Core.Path.{ap}
 use borrow.Author.Needs.{needs}
 use borrow.Author.Tests.{eq-eqb, ne-eqb}
 use Rattle.harl.specs.declared.body.Judged.the-variants.{Accepted}
-use Rattle.harl.specs.Body.{decided}
-use Rattle.harl.proofs.body.decide.Statement.{statement}
-use Rattle.harl.proofs.body.decide.Tie as tie
+use Rattle.harl.specs.Body.{requestOrRefusal}
+use Rattle.harl.proofs.body.request_or_refusal.Statement.{statement}
+use Rattle.harl.proofs.body.request_or_refusal.Tie as tie
 
 judge-parts-requires : tie.Need-judge-parts-requires
 judge-parts-requires c κs = search needs
@@ -14,16 +14,16 @@ request-of-requires : tie.Need-request-of-requires
 request-of-requires c κs = search needs
 
 returns : tie.Need-returns
-unfolding decided
+unfolding requestOrRefusal
 returns c =
     let j = c .before .before in
     rw (← j .before .pre, ← j .judge-parts .ensures, eq-eqb _ _ (c .before .if1 .taken)) (ap Accepted (c .request-of .ensures))
 
 returns-2 : tie.Need-returns-2
-unfolding decided
+unfolding requestOrRefusal
 returns-2 c =
     let j = c .before in
     rw (← j .before .pre, ← j .judge-parts .ensures, ne-eqb _ _ (c .if1 .left))
 
-pub decide-spec : {M : Type 1} → statement M
-decide-spec = tie.close (tie.spec judge-parts-requires request-of-requires returns returns-2)
+pub request-or-refusal-spec : {M : Type 1} → statement M
+request-or-refusal-spec = tie.close (tie.spec judge-parts-requires request-of-requires returns returns-2)

@@ -1,0 +1,25 @@
+-- What the functions below `serve` promise: the slot of a station, and a body served on it.
+use Prim.Native.Nat.{ℕ}
+use mathlib.Core.Path.{_≡_}
+use mathlib.Core.List.{List}
+use Rattle.harl.specs.declared.message.Sent.{Sent}
+use Rattle.harl.specs.Body.{readBody}
+use Rattle.harl.specs.Message.{Wrote}
+use Rattle.tables.specs.Tables.{Tables}
+use Rattle.gateway.specs.declared.serve.Found.{Found}
+use Rattle.gateway.specs.declared.serve.Found.the-variants as found
+use Rattle.model.specs.Box.{Slot, nowhere, at, slotOf, decideBody, performTables, respond}
+use Rattle.gateway.specs.Entries.{box, written}
+
+abbrev pub asFound : Slot → Found
+asFound nowhere = found.Nowhere
+asFound (at k) = found.At k
+
+-- where a station is found
+abbrev pub foundIn : List ℕ → ℕ → Found
+foundIn st s = asFound (slotOf st s)
+
+-- a body that is addressed to slot k: the answer and every table
+pub record BodyServed (k s : ℕ) (body : List ℕ) (t : Tables) (before : List ℕ) (sent : Sent) (t′ : Tables) (later : List ℕ) : Type 0 where
+  pub answer-is : (st : List ℕ) → Wrote (written (respond (box st t) (decideBody k s (readBody body)))) before sent later
+  pub tables-are : t′ ≡ performTables t (decideBody k s (readBody body))
