@@ -7,14 +7,14 @@ use print::put;
 use print::put_bytes;
 use print::put_slice;
 use print::put_text;
-use print::put_two_digits;
+use print::put_two;
 use print::put_untouched;
 use print::put_whole;
 
 // What the reader answered: the number, the station and the body.
 fn put_reading(number: u8, station: u8, body: &[u8]) {
     put(b": ");
-    put_two_digits(number);
+    put_two(number);
     put(b" ");
     put_whole(station as u64);
     put(b" ");

@@ -1,96 +1,337 @@
-// Runs the examples of document 01 against the code, and writes a line for each. What the lines must be
-// stands in the file stdout, which was written from the document and not from a run.
+// Runs the examples of document 01 against the code, by a script of a line for each, and prints a line for
+// each answer. What must be printed stands in the file stdout, which was written from the document and not from
+// a run.
 mod frames; // frames.rt: slices read as frames, and a frame written
-mod fields; // fields.rt: a body cut into fields
 mod numbers; // numbers.rt: numbers read and written
+mod run; // run.rt: the script run line by line
 
-use print::put;
-use text::scan::find;
+use crate::run::run;
 
-// A line is a letter and what is read: F a slice as a frame, B a body cut into fields, H a text as hundredths,
-// W a text as a whole number. One that starts with "#" is a heading.
-fn read(line: &[u8]) {
-    if line.len() == 0 {
-        return;
-    }
-    let rest = &line[1..];
-    match line[0] {
-        b'F' => frames::read(rest),
-        b'B' => fields::cut(rest),
-        b'H' => numbers::read_as_hundredths(rest),
-        b'W' => numbers::read_as_whole(rest),
-        _ => {
-            put(line);
-            put(b"\n");
-        }
-    }
-}
-
-// Reads each line; a line ends with LF, which no slice and no text has.
-fn read_each(lines: &[u8]) {
-    let mut at = 0;
-    while at < lines.len() {
-        let end = find(lines, at, b'\n');
-        read(&lines[at..end]);
-        at = end + 1;
-    }
-}
-
+// The tables by document 01's letters: t, d, x, y, i, o, and m for the memory bits; s the stations.
 fn main() {
-    read_each(
-        b"# Check 2: no bytes, and 5 bytes.\n\
-          F\n\
-          F\x021 \x03\x12\n\
-          # Checks 3 and 4.\n\
-          F\x011 LNT 5\x03\x51\n\
-          F\x021 LNT 5\x04\x56\n\
-          # Check 5: LRC 50h for 51h, over STX too, without ETX.\n\
-          F\x021 LNT 5\x03\x50\n\
-          F\x021 LNT 5\x03\x53\n\
-          F\x021 LNT 5\x03\x52\n\
-          # Check 6: the bytes 1Fh and 7Fh.\n\
-          F\x021 \x1fA\x03\x4c\n\
-          F\x021 \x7fA\x03\x2c\n\
-          # Wrong by checks 3 to 7, and by 5 to 7.\n\
-          F\x011\x7f5\x04\x00\n\
-          F\x021\x7f5\x03\x00\n\
-          # Check 7: stations 01, 100 and 0, no station, no SP.\n\
-          F\x0201 A\x03\x63\n\
-          F\x02100 A\x03\x53\n\
-          F\x020 A\x03\x52\n\
-          F\x02 AB\x03\x20\n\
-          F\x021LNT5\x03\x51\n\
-          # Frames accepted: P1, P2, LRC 02h and 03h, station 99, the bytes 20h and 7Eh, 6 bytes.\n\
-          F\x021 LNT 5\x03\x51\n\
-          F\x022 SND 63 0042\x03\x4b\n\
-          F\x026 LNOB 8\x03\x02\n\
-          F\x027 LNOB 8\x03\x03\n\
-          F\x0299 A\x03\x62\n\
-          F\x021  ~\x03\x4c\n\
-          F\x0210 \x03\x22\n\
-          # Two SPs together enclose an empty field, and so does one at the end; this body has no field 4.\n\
-          BA  B \n\
-          # Texts read as hundredths.\n\
-          H-0.05\n\
-          H-0\n\
-          H-0.0\n\
-          H-0.00\n\
-          H12.5\n\
-          H-9999.99\n\
-          H10000\n\
-          H1.\n\
-          H.5\n\
-          H1.234\n\
-          H+1\n\
-          H\n\
-          # Texts read as whole numbers.\n\
-          W0042\n\
-          W10000\n\
-          W\n\
-          W-1\n",
+    let mut t = [[0u16; 16]; 4];
+    let mut d = [[0u16; 64]; 4];
+    let mut x = [[0i32; 100]; 4];
+    let mut y = [[0i32; 100]; 4];
+    let mut i = [[0u8; 32]; 4];
+    let mut o = [[0u8; 32]; 4];
+    let mut m = [[0u8; 16]; 4];
+    let mut s = [0u8; 4];
+    run(
+        &mut t,
+        &mut d,
+        &mut x,
+        &mut y,
+        &mut i,
+        &mut o,
+        &mut m,
+        &mut s,
+        b"# Check 2: no bytes, and 5 bytes.\0\
+          F\0\
+          F\x021 \x03\x12\0\
+          # Checks 3 and 4.\0\
+          F\x011 LNT 5\x03\x51\0\
+          F\x021 LNT 5\x04\x56\0\
+          # Check 5: LRC 50h for 51h, over STX too, without ETX.\0\
+          F\x021 LNT 5\x03\x50\0\
+          F\x021 LNT 5\x03\x53\0\
+          F\x021 LNT 5\x03\x52\0\
+          # Check 6: the bytes 1Fh and 7Fh.\0\
+          F\x021 \x1fA\x03\x4c\0\
+          F\x021 \x7fA\x03\x2c\0\
+          # Wrong by checks 3 to 7, and by 5 to 7.\0\
+          F\x011\x7f5\x04\x01\0\
+          F\x021\x7f5\x03\x01\0\
+          # Check 7: stations 01, 100 and 0, no station, no SP.\0\
+          F\x0201 A\x03\x63\0\
+          F\x02100 A\x03\x53\0\
+          F\x020 A\x03\x52\0\
+          F\x02 AB\x03\x20\0\
+          F\x021LNT5\x03\x51\0\
+          # Frames accepted: P1, P2, LRC 02h and 03h, station 99, the bytes 20h and 7Eh, 6 bytes.\0\
+          F\x021 LNT 5\x03\x51\0\
+          F\x022 SND 63 0042\x03\x4b\0\
+          F\x026 LNOB 8\x03\x02\0\
+          F\x027 LNOB 8\x03\x03\0\
+          F\x0299 A\x03\x62\0\
+          F\x021  ~\x03\x4c\0\
+          F\x0210 \x03\x22\0\
+          # Texts read as hundredths.\0\
+          H-0.05\0\
+          H-0\0\
+          H-0.0\0\
+          H-0.00\0\
+          H12.5\0\
+          H-9999.99\0\
+          H10000\0\
+          H1.\0\
+          H.5\0\
+          H1.234\0\
+          H+1\0\
+          H\0\
+          # Texts read as whole numbers.\0\
+          W0042\0\
+          W10000\0\
+          W\0\
+          W-1\0",
     );
     frames::read_long();
     frames::written();
     numbers::hundredths_written();
     numbers::wholes_written();
+    run(
+        &mut t,
+        &mut d,
+        &mut x,
+        &mut y,
+        &mut i,
+        &mut o,
+        &mut m,
+        &mut s,
+        b"# Requests of each kind. One that is accepted is written too.\0\
+          Q\x021 LNT 5\x03\x51\0\
+          Q\x021 SNT 15 9.99\x03\x48\0\
+          Q\x022 LND 15\x03\x73\0\
+          Q\x022 SND 63 0042\x03\x4b\0\
+          Q\x023 LNL 99\x03\x7e\0\
+          Q\x023 SNL 99 -9999.99 9999.99\x03\x4c\0\
+          Q\x024 LNIB 255\x03\x0c\0\
+          Q\x024 LNOB 255\x03\x0a\0\
+          Q\x024 SNOB 255 1\x03\x04\0\
+          Q\x025 LNID 31\x03\x3b\0\
+          Q\x025 LNOD 31\x03\x3d\0\
+          Q\x025 SNOD 31 255\x03\x30\0\
+          Q\x0299 LNBB 256\x03\x30\0\
+          Q\x0299 SNBB 383 1\x03\x37\0\
+          Q\x0299 LNBD 15\x03\x03\0\
+          Q\x0299 SNBD 15 255\x03\x0e\0\
+          # Numbers that are read in one form and written in another.\0\
+          Q\x021 LNT 0005\x03\x61\0\
+          Q\x021 SND 0 7\x03\x4c\0\
+          Q\x021 SNL 0 -0 12.5\x03\x56\0\
+          # Check 5 of the frame, and check 9: a name in small letters, an empty body, an empty name.\0\
+          Q\x021 LNT 5\x03\x50\0\
+          Q\x021 lnt 5\x03\x71\0\
+          Q\x0210 \x03\x22\0\
+          Q\x021  LNT 5\x03\x71\0\
+          # Check 10: two SPs together, an SP at the end, a missing field, a surplus field, a field out of its form.\0\
+          Q\x021 LNT  5\x03\x71\0\
+          Q\x021 LNT 5 \x03\x71\0\
+          Q\x021 LNT\x03\x44\0\
+          Q\x021 SNT 5\x03\x4e\0\
+          Q\x021 SNL 0 1.00\x03\x6c\0\
+          Q\x021 LNT 5 1\x03\x40\0\
+          Q\x021 SND 0 1 2\x03\x58\0\
+          Q\x021 SND 0 -1\x03\x67\0\
+          Q\x021 SNL 0 10000 0\x03\x52\0\
+          Q\x021 SNOD 32 x\x03\x7d\0\
+          # Check 11, and check 12.\0\
+          Q\x021 SNOD 32 256\x03\x34\0\
+          Q\x021 LNBB 255\x03\x02\0\
+          Q\x021 LNBB 384\x03\x0f\0\
+          Q\x021 LNL 100\x03\x4d\0\
+          Q\x021 SNL 100 0 0\x03\x52\0\
+          Q\x021 LND 16\x03\x73\0\
+          Q\x021 SND 64 0\x03\x79\0\
+          Q\x021 SNT 0 10.00\x03\x44\0\
+          Q\x021 SNT 0 -0.01\x03\x59\0\
+          # Replies: checks 7, 11 and 12 of the request come before check 2 of the slice.\0\
+          PB\0\
+          PD\0\
+          PG\0\
+          PI\0\
+          # Check 5 of the slice, and check 15: another station, data out of range or of a wrong form.\0\
+          PI\x021 9.99\x03\x04\0\
+          PI\x022 9.99\x03\x06\0\
+          PI\x021 10.00\x03\x3d\0\
+          PI\x021 x\x03\x6a\0\
+          PI\x021 9.99 1\x03\x14\0\
+          PI\x021 E5\x03\x62\0\
+          PN\x021 E05\x03\x52\0\
+          PN\x021 000\x03\x22\0\
+          # Any two digits may follow E.\0\
+          PI\x021 E09\x03\x5e\0\
+          # Typed requests written: P2, and checks 7, 11 and 12.\0\
+          TA\0\
+          TB\0\
+          TC\0\
+          TD\0\
+          TE\0\
+          TF\0\
+          TG\0\
+          TH\0\
+          # Those that replies of each kind answer.\0\
+          TI\0\
+          TJ\0\
+          TK\0\
+          TL\0\
+          TM\0\
+          TN\0\
+          # Stations 0, 1 and 99.\0\
+          TO\0\
+          TP\0\
+          TQ\0\
+          # Ends of data that no text can pass, and one beyond.\0\
+          TR\0\
+          TS\0\
+          TT\0\
+          TU\0\
+          TV\0\
+          # An area of 63 bytes.\0\
+          tI\0\
+          tO\0\
+          # Typed replies written: data of each kind, and statuses.\0\
+          Ya\0\
+          Yb\0\
+          Yc\0\
+          Yd\0\
+          Ye\0\
+          Yf\0\
+          Yg\0\
+          Yh\0\
+          # Statuses 00, 99 and 100, of an LN and of an SN.\0\
+          Yi\0\
+          Yj\0\
+          Yk\0\
+          Yl\0\
+          Ym\0\
+          # Check 12 of what a reply carries, and checks 7, 11 and 12 of the request, which come before.\0\
+          Yn\0\
+          Yo\0\
+          Yp\0\
+          Yq\0\
+          Yr\0\
+          Ys\0\
+          Yt\0\
+          Yu\0\
+          # An area of 63 bytes.\0\
+          ya\0\
+          yu\0",
+    );
+    run(
+        &mut t,
+        &mut d,
+        &mut x,
+        &mut y,
+        &mut i,
+        &mut o,
+        &mut m,
+        &mut s,
+        b"# Row 99 is the last. A refused row changes no arm's tables.\0\
+          setup 1 2 3 4\0\
+          S\x021 SNL 99 -9999.99 0.05\x03{\0\
+          S\x021 LNL 99\x03|\0\
+          S\x021 SNL 100 1 2\x03Q\0\
+          S\x021 LNL 100\x03M\0\
+          S\x022 LNL 0\x03O\0\
+          S\x022 LNL 99\x03\x7f\0\
+          S\x023 LNL 99\x03~\0\
+          S\x024 LNL 99\x03y\0\
+          # Timers.\0\
+          S\x021 LNT 5\x03Q\0\
+          S\x021 SNT 5 1.25\x03v\0\
+          S\x021 LNT 5\x03Q\0\
+          # Register 63 is stored; LND reads 0 to 15 only.\0\
+          S\x022 SND 63 0042\x03K\0\
+          S\x022 LND 15\x03s\0\
+          S\x022 SND 15 42\x03J\0\
+          S\x022 LND 15\x03s\0\
+          S\x022 LND 16\x03p\0\
+          # Signals and the ports that hold them.\0\
+          S\x021 SNOB 255 1\x03\x01\0\
+          S\x021 LNOD 31\x039\0\
+          S\x021 LNOB 255\x03\x0f\0\
+          S\x021 SNBB 272 1\x03\x09\0\
+          S\x021 LNBD 2\x03\x04\0\
+          S\x021 LNBB 255\x03\x02\0\
+          S\x021 LNBB 384\x03\x0f\0\
+          # Input calls.\0\
+          input slot 2 port 31 byte 200\0\
+          S\x023 LNID 31\x03=\0\
+          input slot 4 port 0 byte 1\0\
+          input slot 0 port 32 byte 1\0\
+          # Requests refused.\0\
+          S\x021 LNT  5\x03q\0\
+          S\x021 SNOD 32 256\x034\0\
+          S\x021 lnt 5\x03q\0\
+          S\x021 SNT 5 10.00\x03A\0\
+          # A refused setup leaves no station.\0\
+          setup 1 2 1 0\0\
+          setup 100 0 0 0\0\
+          # Slot 0 is unfitted, and no arm has station 1.\0\
+          setup 0 7 0 0\0\
+          input slot 0 port 0 byte 1\0\
+          input slot 1 port 0 byte 1\0\
+          S\x027 LNID 0\x03\x0b\0\
+          S\x021 LNT 5\x03Q\0\
+          # An item of each kind is stored.\0\
+          setup 1 2 3 4\0\
+          S\x021 SNT 5 1.25\x03v\0\
+          S\x021 SND 63 0042\x03H\0\
+          S\x021 SNL 99 -9999.99 0.05\x03{\0\
+          input slot 0 port 31 byte 200\0\
+          S\x021 SNOB 255 1\x03\x01\0\
+          S\x021 SNBB 272 1\x03\x09\0\
+          # Refusals 1 to 14. Each call but that of no bytes would store something if it were not refused.\0\
+          N\x021 SNT 5 9.99\x03y\0\
+          S\0\
+          S\x011 SNT 5 9.99\x03y\0\
+          S\x021 SNT 5 9.99\x04y\0\
+          S\x021 SNT 5 9.99\x03x\0\
+          S\x021 SNT 5\x099.99\x03P\0\
+          S\x0201 SNT 5 9.99\x03I\0\
+          S\x029 SNT 5 9.99\x03q\0\
+          S\x021 snt 5 9.99\x03Y\0\
+          S\x021 SNL 99 7 10000\x03e\0\
+          S\x021 SNL 100 7 7\x03R\0\
+          S\x021 SNT 5 10.00\x03A\0\
+          other setup 1 1 0 0\0\
+          input slot 0 port 32 byte 1\0\
+          # Stations 1 and 99 and slots 0 and 3 are the ends; so are ports 0 and 31.\0\
+          setup 99 0 0 1\0\
+          input slot 0 port 0 byte 255\0\
+          input slot 0 port 31 byte 1\0\
+          input slot 3 port 0 byte 128\0\
+          input slot 3 port 31 byte 255\0\
+          S\x0299 LNID 0\x03\x3c\0\
+          S\x0299 LNID 31\x03\x0e\0\
+          S\x021 LNID 0\x03\x0d\0\
+          S\x021 LNID 31\x03\x3f\0\
+          S\x021 LNIB 0\x03\x0b\0\
+          S\x021 LNIB 7\x03\x0c\0\
+          S\x021 LNIB 255\x03\x09\0\
+          S\x0299 LNIB 0\x03\x3a\0\
+          S\x0299 LNIB 8\x03\x32\0\
+          S\x0299 LNIB 248\x03\x34\0\
+          input slot 1 port 0 byte 1\0\
+          input slot 2 port 0 byte 1\0\
+          input slot 4 port 0 byte 1\0\
+          input slot 0 port 32 byte 1\0\
+          input slot 3 port 32 byte 1\0\
+          # One nonzero station twice, in any two slots; a station above 99, in any slot; 0 as often as is liked.\0\
+          setup 5 0 0 5\0\
+          setup 0 0 6 6\0\
+          setup 1 2 3 100\0\
+          setup 0 100 0 0\0\
+          setup 0 0 0 0\0\
+          setup 99 98 97 1\0\
+          # The ranges of numbers and data, as document 01 prints them.\0\
+          setup 1 0 0 0\0\
+          R0 LNT -1 0 15 16\0\
+          R1 SNT -1 0 15 16 -0.01 0.00 9.99 10.00\0\
+          R0 LND -1 0 15 16\0\
+          R1 SND -1 0 63 64 -1 0 9999 10000\0\
+          R0 LNL -1 0 99 100\0\
+          R2 SNL -1 0 99 100 -10000.00 -9999.99 9999.99 10000.00\0\
+          R0 LNIB -1 0 255 256\0\
+          R0 LNOB -1 0 255 256\0\
+          R1 SNOB -1 0 255 256 -1 0 1 2\0\
+          R0 LNID -1 0 31 32\0\
+          R0 LNOD -1 0 31 32\0\
+          R1 SNOD -1 0 31 32 -1 0 255 256\0\
+          R0 LNBB 255 256 383 384\0\
+          R1 SNBB 255 256 383 384 -1 0 1 2\0\
+          R0 LNBD -1 0 15 16\0\
+          R1 SNBD -1 0 15 16 -1 0 255 256\0",
+    );
 }

@@ -49,12 +49,11 @@ fn write_hundredths(v: i32) {
 }
 
 pub fn hundredths_written() {
-    let values = [5, -5, 0, 999999, -999999];
-    let mut k = 0;
-    while k < 5 {
-        write_hundredths(values[k]);
-        k += 1;
-    }
+    write_hundredths(5);
+    write_hundredths(-5);
+    write_hundredths(0);
+    write_hundredths(999999);
+    write_hundredths(-999999);
 }
 
 fn write_shortest(v: u16) {
@@ -81,10 +80,7 @@ fn write_whole(v: u16) {
 }
 
 pub fn wholes_written() {
-    let values = [0, 42, 9999];
-    let mut k = 0;
-    while k < 3 {
-        write_whole(values[k]);
-        k += 1;
-    }
+    write_whole(0);
+    write_whole(42);
+    write_whole(9999);
 }

@@ -1,13 +1,17 @@
 // One call of each kind, and what its line says.
+use crate::ranges::try_row;
+use crate::snapshot::put_tables;
 use crate::snapshot::put_zero;
 use crate::snapshot::snapshot;
 use crate::steps::Step;
+use crate::steps::put_label;
+use crate::steps::step_of;
 use commands::request::Port;
 use gateway::input::input;
 use gateway::serve::serve;
 use gateway::setup::setup;
 use print::put;
-use print::put_two_digits;
+use print::put_two;
 use print::put_whole;
 use print::put_written;
 
@@ -51,7 +55,7 @@ fn set_up_other(want: [u16; 4]) {
     let mut o = [[7u8; 32]; 4];
     let mut m = [[7u8; 16]; 4];
     let mut s = [7u8; 4];
-    put_two_digits(setup(
+    put_two(setup(
         &mut t,
         &mut d,
         &mut x,
@@ -66,8 +70,8 @@ fn set_up_other(want: [u16; 4]) {
     put_zero(b", other tables", &snapshot(&t, &d, &x, &y, &i, &o, &m));
 }
 
-// Makes the call of a step.
-pub fn make(
+// Makes the call of a step; `rest` is its line from the second byte on.
+fn make(
     t: &mut [[u16; 16]; 4],
     d: &mut [[u16; 64]; 4],
     x: &mut [[i32; 100]; 4],
@@ -77,16 +81,15 @@ pub fn make(
     m: &mut [[u8; 16]; 4],
     s: &mut [u8; 4],
     step: Step,
-    slice: &[u8],
+    rest: &[u8],
 ) {
     match step {
-        Step::Heading => {}
         Step::Setup(a, b, c, e) => {
-            put_two_digits(setup(t, d, x, y, i, o, m, s, [a, b, c, e]));
+            put_two(setup(t, d, x, y, i, o, m, s, [a, b, c, e]));
             put_stations(s);
         }
         Step::Other(a, b, c, e) => set_up_other([a, b, c, e]),
-        Step::Input(slot, port, byte) => put_two_digits(input(
+        Step::Input(slot, port, byte) => put_two(input(
             t,
             d,
             x,
@@ -101,11 +104,41 @@ pub fn make(
         )),
         Step::Narrow => {
             let mut area = [0xaa; 63];
-            answer(t, d, x, y, i, o, m, s, slice, &mut area);
+            answer(t, d, x, y, i, o, m, s, rest, &mut area);
         }
+        Step::Ranges => try_row(t, d, x, y, i, o, m, s, rest),
         Step::Serve => {
             let mut area = [0xaa; 64];
-            answer(t, d, x, y, i, o, m, s, slice, &mut area);
+            answer(t, d, x, y, i, o, m, s, rest, &mut area);
         }
     }
+}
+
+// The line from its second byte on.
+fn rest(line: &[u8]) -> &[u8] {
+    if line.len() == 0 {
+        return line;
+    }
+    &line[1..]
+}
+
+// Makes the call of a line, given the tables' entries before it, and returns those after it.
+pub fn call(
+    t: &mut [[u16; 16]; 4],
+    d: &mut [[u16; 64]; 4],
+    x: &mut [[i32; 100]; 4],
+    y: &mut [[i32; 100]; 4],
+    i: &mut [[u8; 32]; 4],
+    o: &mut [[u8; 32]; 4],
+    m: &mut [[u8; 16]; 4],
+    s: &mut [u8; 4],
+    line: &[u8],
+    before: [i32; 1440],
+) -> [i32; 1440] {
+    let step = step_of(line);
+    put_label(step, line);
+    make(t, d, x, y, i, o, m, s, step, rest(line));
+    let after = snapshot(t, d, x, y, i, o, m);
+    put_tables(step, &before, &after);
+    after
 }

@@ -129,7 +129,7 @@ fn put_same(before: &[i32; 1440], after: &[i32; 1440]) {
 // What a step left in the tables: those of a new box are zero, and others changed or not.
 pub fn put_tables(step: Step, before: &[i32; 1440], after: &[i32; 1440]) {
     match step {
-        Step::Heading => {}
+        Step::Ranges => return,
         Step::Setup(_, _, _, _) => put_zero(b", tables", after),
         _ => put_same(before, after),
     }

@@ -1,6 +1,6 @@
-// The script that is run: a line for each step.
+// A line of the script as the step that it asks for.
 use commands::command::is_same;
-use frame::fields::field;
+use print::part;
 use print::put;
 use print::put_slice;
 use text::whole::Whole;
@@ -8,23 +8,23 @@ use text::whole::read_whole;
 
 // What a line asks for.
 pub enum Step {
-    // "#" and a heading, which is printed.
-    Heading,
     // "setup" and four stations: a new box, in the memory of the last.
     Setup(u16, u16, u16, u16),
     // "other setup" and four stations: a new box in other memory.
     Other(u16, u16, u16, u16),
     // "input slot A port B byte C": an input call.
     Input(u16, u16, u8),
-    // "in 63 bytes" and a slice: it is served with a reply area of 63 bytes.
+    // "N" and a slice: it is served with a reply area of 63 bytes.
     Narrow,
-    // Any other line is a slice, and is served with a reply area of 64 bytes.
+    // "R" and a row of the table of ranges: a call for each end of each range, and one beyond.
+    Ranges,
+    // "S" and a slice: it is served with a reply area of 64 bytes.
     Serve,
 }
 
-// Field k of a line as a number.
+// Word k of a line as a number.
 fn number(line: &[u8], k: usize) -> u16 {
-    let w = read_whole(field(line, k));
+    let w = read_whole(part(line, b' ', k));
     match w {
         Whole::Value(v) => v,
         Whole::Malformed => 0,
@@ -35,11 +35,15 @@ fn byte(line: &[u8], k: usize) -> u8 {
     (number(line, k) % 256) as u8
 }
 
-pub fn step_of(line: &[u8]) -> Step {
-    let name = field(line, 0);
-    if is_same(name, b"#") {
-        return Step::Heading;
+fn is_kind(line: &[u8], kind: u8) -> bool {
+    if line.len() == 0 {
+        return false;
     }
+    line[0] == kind
+}
+
+pub fn step_of(line: &[u8]) -> Step {
+    let name = part(line, b' ', 0);
     if is_same(name, b"setup") {
         return Step::Setup(
             number(line, 1),
@@ -59,40 +63,31 @@ pub fn step_of(line: &[u8]) -> Step {
     if is_same(name, b"input") {
         return Step::Input(number(line, 2), number(line, 4), byte(line, 6));
     }
-    if is_same(name, b"in") {
+    if is_kind(line, b'N') {
         return Step::Narrow;
     }
+    if is_kind(line, b'R') {
+        return Step::Ranges;
+    }
     Step::Serve
-}
-
-// What follows the twelve bytes "in 63 bytes ".
-fn rest(line: &[u8]) -> &[u8] {
-    if line.len() < 12 {
-        return line;
-    }
-    &line[12..]
-}
-
-// The slice that a line has.
-pub fn slice_of(step: Step, line: &[u8]) -> &[u8] {
-    if let Step::Narrow = step {
-        rest(line)
-    } else {
-        line
-    }
 }
 
 // What stands before a step's answer.
 pub fn put_label(step: Step, line: &[u8]) {
     match step {
-        Step::Heading => put(line),
-        Step::Narrow | Step::Serve => {
-            put(b"serving ");
-            put_slice(line);
-        }
+        Step::Ranges => {}
+        Step::Narrow => put_serving(b"serving in 63 bytes ", line),
+        Step::Serve => put_serving(b"serving ", line),
         _ => {
             put(line);
             put(b": ");
         }
+    }
+}
+
+fn put_serving(label: &[u8], line: &[u8]) {
+    put(label);
+    if 0 < line.len() {
+        put_slice(&line[1..]);
     }
 }

@@ -2,6 +2,7 @@
 use commands::request::Load;
 use commands::request::Port;
 use commands::request::Request;
+use commands::request::Row;
 use commands::request::Signal;
 use commands::request::Store;
 
@@ -14,6 +15,10 @@ fn load(station: u8, load: Load) -> Case {
 
 fn store(station: u8, store: Store) -> Case {
     Case(station, Request::Store(store))
+}
+
+fn row(x: i32, y: i32) -> Case {
+    store(1, Store::Row(0, Row { x, y }))
 }
 
 pub fn case_of(letter: u8) -> Case {
@@ -35,6 +40,15 @@ pub fn case_of(letter: u8) -> Case {
         b'L' => load(4, Load::Input(Signal(255))),
         b'M' => load(5, Load::OutputPort(Port(31))),
         b'N' => store(1, Store::Timer(0, 0)),
+        // The ends of the stations, and one beyond.
+        b'P' => load(1, Load::Timer(0)),
+        b'Q' => load(99, Load::Timer(15)),
+        // The ends of data, and one beyond, which no text in its form can give.
+        b'R' => store(1, Store::Register(0, 9999)),
+        b'S' => store(1, Store::Register(0, 10000)),
+        b'T' => row(999999, -999999),
+        b'U' => row(1000000, 0),
+        b'V' => row(0, -1000000),
         // Check 7 refuses this.
         _ => load(0, Load::Timer(5)),
     }

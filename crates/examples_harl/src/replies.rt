@@ -56,52 +56,53 @@ fn status(n: u8, letter: u8) -> Reply {
     Reply(Outcome::Status(n), letter)
 }
 
-// The replies that are written.
-fn reply_of(k: usize) -> Reply {
-    match k {
+// The replies that are written, each by a letter.
+fn reply_of(letter: u8) -> Reply {
+    match letter {
         // Data of each kind.
-        0 => data(Data::Timer(999), b'I'),
-        1 => data(Data::Register(42), b'J'),
-        2 => data(Data::Row(Row { x: -5, y: 999999 }), b'K'),
-        3 => data(Data::Signal(1), b'L'),
-        4 => data(Data::Port(255), b'M'),
+        b'a' => data(Data::Timer(999), b'I'),
+        b'b' => data(Data::Register(42), b'J'),
+        b'c' => data(Data::Row(Row { x: -5, y: 999999 }), b'K'),
+        b'd' => data(Data::Signal(1), b'L'),
+        b'e' => data(Data::Port(255), b'M'),
         // Statuses, the last of them P2's.
-        5 => status(5, b'I'),
-        6 => status(5, b'N'),
-        7 => status(0, b'A'),
-        // Check 12 of what a reply carries: data of another kind or out of range, data for an SN, a status
-        // above 99.
-        8 => data(Data::Register(5), b'I'),
-        9 => data(Data::Timer(1000), b'I'),
-        10 => data(Data::Timer(0), b'N'),
-        11 => status(100, b'I'),
+        b'f' => status(5, b'I'),
+        b'g' => status(5, b'N'),
+        b'h' => status(0, b'A'),
+        // The ends of the statuses, of an LN and of an SN.
+        b'i' => status(0, b'I'),
+        b'j' => status(99, b'I'),
+        b'k' => status(99, b'N'),
+        b'l' => status(100, b'I'),
+        b'm' => status(100, b'N'),
+        // Check 12 of what a reply carries: data of another kind or out of range, data for an SN.
+        b'n' => data(Data::Register(5), b'I'),
+        b'o' => data(Data::Timer(1000), b'I'),
+        b'p' => data(Data::Timer(-1), b'I'),
+        b'q' => data(Data::Timer(0), b'N'),
         // Checks 7, 11 and 12 of the request come before.
-        12 => status(100, b'B'),
-        13 => status(100, b'D'),
-        14 => status(0, b'G'),
+        b'r' => status(100, b'B'),
+        b's' => status(100, b'D'),
+        b't' => status(0, b'G'),
         // Check 7 refuses this.
         _ => data(Data::Timer(999), b'O'),
     }
 }
 
-fn write_reply_of(area: &mut [u8], k: usize) {
-    let reply = reply_of(k);
+fn write_reply_of(area: &mut [u8], letter: u8) {
+    let reply = reply_of(letter);
     let outcome = reply.0;
     write(area, outcome, reply.1);
 }
 
-pub fn typed() {
-    let mut k = 0;
-    while k < 16 {
-        let mut area = [0xaa; 64];
-        write_reply_of(&mut area, k);
-        k += 1;
-    }
+// Writes the reply of a letter into an area of 64 bytes.
+pub fn write_typed(letter: u8) {
+    let mut area = [0xaa; 64];
+    write_reply_of(&mut area, letter);
 }
 
-// An area of 63 bytes is refused before the station is.
-pub fn written_to_63_bytes() {
+// Writes it into an area of 63 bytes, which is refused before anything else is.
+pub fn write_narrow(letter: u8) {
     let mut area = [0xaa; 63];
-    write_reply_of(&mut area, 0);
-    write_reply_of(&mut area, 15);
+    write_reply_of(&mut area, letter);
 }

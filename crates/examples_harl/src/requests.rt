@@ -34,26 +34,20 @@ pub fn read(slice: &[u8]) {
     }
 }
 
-// Writes the request of a letter.
+// Writes the request of a letter into an area of 64 bytes.
+pub fn write_typed(letter: u8) {
+    let mut area = [0xaa; 64];
+    write_case(&mut area, letter);
+}
+
+// Writes it into an area of 63 bytes, which is refused before anything else is.
+pub fn write_narrow(letter: u8) {
+    let mut area = [0xaa; 63];
+    write_case(&mut area, letter);
+}
+
 fn write_case(area: &mut [u8], letter: u8) {
     let case = case_of(letter);
     let request = case.1;
     write(area, case.0, request);
-}
-
-// The request of each letter.
-pub fn typed() {
-    let mut letter = b'A';
-    while letter <= b'O' {
-        let mut area = [0xaa; 64];
-        write_case(&mut area, letter);
-        letter += 1;
-    }
-}
-
-// An area of 63 bytes is refused before the station is.
-pub fn written_to_63_bytes() {
-    let mut area = [0xaa; 63];
-    write_case(&mut area, b'I');
-    write_case(&mut area, b'O');
 }

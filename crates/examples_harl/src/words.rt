@@ -3,9 +3,9 @@ use commands::request::Load;
 use commands::request::Request;
 use commands::request::Row;
 use commands::request::Store;
-use frame::fields::field;
 use harl::reply::Data;
 use harl::reply::Outcome;
+use print::part;
 use print::put;
 use print::put_signed;
 use print::put_whole;
@@ -20,8 +20,9 @@ struct Words {
 }
 
 fn put_kind(k: usize) {
-    put(field(
+    put(part(
         b"timer register row input input-port output output-port memory-bit memory-port signal port status",
+        b' ',
         k,
     ));
 }

@@ -68,7 +68,7 @@ module _ (b : Box) (k : ℕ) (h : InRange (b .tables)) where
 -- ---- end to end
 
 -- on a box that has what setup and calls leave
-exchanged : (b : Box) (k s : ℕ) (r : Request) (area room : ℕ)
+pub exchanged : (b : Box) (k s : ℕ) (r : Request) (area room : ℕ)
     → getD (b .stations) k 0 ≡ s → Apart (b .stations) → Fitted k (b .stations) → Shaped (b .tables) → InRange (b .tables)
     → writeRequest area s r .number ≡ 0 → 64 ≤ room
     → Exchanged b k s r (serve (writeRequest area s r .bytes) room)

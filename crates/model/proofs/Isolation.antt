@@ -18,7 +18,7 @@ use Rattle.model.proofs.Shaped.{after-shaped, setup-shaped}
 
 -- ---- one call
 
-after-stations : (b : Box) (c : Call) → after b c .stations ≡ b .stations
+pub after-stations : (b : Box) (c : Call) → after b c .stations ≡ b .stations
 unfolding after perform
 after-stations b c = refl
 

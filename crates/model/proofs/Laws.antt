@@ -132,7 +132,7 @@ never {A} {n} {s} {r} e =
     absurd (omega arith)
 
 -- what reads as a request is a frame of it
-framed : (o : Reading) (s : ℕ) (r : Request) → requestIn o ≡ theRequest s r → Framed o s r
+pub framed : (o : Reading) (s : ℕ) (r : Request) → requestIn o ≡ theRequest s r → Framed o s r
 framed o s r = go (eqb (o .number) 0) refl (readBody (o .body)) refl
   where
     go : (t : Bool) → eqb (o .number) 0 ≡ t → (j : Judged) → readBody (o .body) ≡ j

@@ -6,5 +6,6 @@ pub mod Setups
 pub mod Isolation
 pub mod Ranges
 pub mod EndToEnd
+pub mod StoreLoad
 pub mod Runs
 pub mod Worked

@@ -104,7 +104,7 @@ performed-in t (accepted k s (request.Load l)) e h = h
 performed-in t (accepted k s (request.Store q)) e h = stored-in t k q e h
 performed-in t (inputSet k p v) e h = search set-natural
 
-after-in : (b : Box) (c : Call) → bringsByte c ≡ true → InRange (b .tables) → InRange (after b c .tables)
+pub after-in : (b : Box) (c : Call) → bringsByte c ≡ true → InRange (b .tables) → InRange (after b c .tables)
 unfolding after perform
 after-in b c e h = performed-in (b .tables) (decide (b .stations) c) (sound (b .stations) c e) h
 

@@ -107,7 +107,7 @@ concerns (refused k s n q) = at k
 concerns (accepted k s r) = at k
 concerns (inputSet k p v) = at k
 
-body-concerns : (k s : ℕ) (j : Judged) → concerns (decideBody k s j) ≡ at k
+pub body-concerns : (k s : ℕ) (j : Judged) → concerns (decideBody k s j) ≡ at k
 body-concerns k s (judged.Accepted r) = refl
 body-concerns k s (judged.Refused n q) = refl
 

@@ -6,5 +6,6 @@ pub mod Shaped
 pub mod Ranges
 pub mod Demand3
 pub mod EndToEnd
+pub mod StoreLoad
 pub mod Runs
 pub mod Worked

@@ -1,7 +1,10 @@
 // What the example programs write on standard output: labels, texts, numbers and bytes.
 use libc::STDOUT_FILENO;
 use text::hundredths::unsigned_abs;
-ghost use Prim.Native.Nat.{_<_};
+use text::scan::find;
+use text::whole::put_two_digits;
+ghost use Prim.Native.Nat.{_<_, _≤_};
+ghost use lib.ListN.{length};
 
 pub fn put(s: &[u8]) {
     io::write_all(STDOUT_FILENO, s);
@@ -18,8 +21,9 @@ pub fn put_whole(n: u64) {
     io::print_decimal(STDOUT_FILENO, n);
 }
 
-pub fn put_two_digits(n: u8) {
-    let digits = [b'0' + n / 10 % 10, b'0' + n % 10];
+pub fn put_two(n: u8) {
+    let mut digits = [0u8; 2];
+    put_two_digits(&mut digits, 0, n as u16);
     put(&digits);
 }
 
@@ -107,7 +111,7 @@ pub fn put_untouched(area: &[u8]) {
 // area.
 pub fn put_written(number: u8, length: usize, none: &[u8], area: &[u8]) {
     put(b": ");
-    put_two_digits(number);
+    put_two(number);
     if length == 0 {
         put(none);
     } else {
@@ -120,6 +124,43 @@ pub fn put_written(number: u8, length: usize, none: &[u8], area: &[u8]) {
 // The rest of a line that ends with a number of two digits.
 pub fn put_number(number: u8) {
     put(b": ");
-    put_two_digits(number);
+    put_two(number);
     put(b"\n");
+}
+
+// How many times a byte stands in s.
+pub fn count(s: &[u8], byte: u8) -> usize {
+    let mut n: usize = 0;
+    let mut i = 0;
+    while i < s.len() {
+        if s[i] == byte {
+            n += 1;
+        }
+        i += 1;
+    }
+    n
+}
+
+// Where part k of s starts, the parts having one `mark` between them; s's length where there is none.
+fn part_start(s: &[u8], mark: u8, k: usize) -> usize
+    ensures { λ r. ⌜ r ≤ length (now (s .entry)) ⌝ }
+{
+    let mut from = 0;
+    let mut j = 0;
+    while j < k {
+        let end = find(s, from, mark);
+        if end == s.len() {
+            return end;
+        }
+        from = end + 1;
+        j += 1;
+    }
+    from
+}
+
+// Part k of s; an empty part where there is none.
+pub fn part(s: &[u8], mark: u8, k: usize) -> &[u8] {
+    let from = part_start(s, mark, k);
+    let end = find(s, from, mark);
+    &s[from..end]
 }

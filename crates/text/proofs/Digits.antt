@@ -11,7 +11,7 @@ use lib.ListN.{length, length-append}
 use Rattle.text.specs.declared.whole.Whole.the-variants.{Value}
 use Rattle.text.specs.Scan.{until}
 use Rattle.text.proofs.Laws.{Skips, skips-append}
-use Rattle.text.specs.Whole.{isDigit, digitsOnto, readWhole, digit, leading, shortest, padded}
+use Rattle.text.specs.Whole.{isDigit, digitsOnto, readWhole, digit, leading, shortest, twoDigits, padded}
 
 -- ---- lengths
 
@@ -47,6 +47,9 @@ shortest-short v = omega (arith, shortest-length v, leading-length 1000 v, leadi
 pub padded-length : (v : ℕ) → length (padded v) ≡ 4
 unfolding padded
 padded-length v = simp (length-append, digit-length)
+
+pub two-length : (v : ℕ) → length (twoDigits v) ≡ 2
+two-length v = simp (length-append, digit-length)
 
 -- ---- reading what was written
 
@@ -100,10 +103,10 @@ read-padded v h =
     (digit-read 1000 v 0 _ (omega arith) ∙ digit-read 100 v _ _ (omega arith) ∙ digit-read 10 v _ _ (omega arith) ∙ last-read v _ refl)
 
 -- two digits, as after a point
-pub read-two : (v : ℕ) → v < 100 → readWhole (digit 10 v ++ digit 1 v) ≡ Value v
+pub read-two : (v : ℕ) → v < 100 → readWhole (twoDigits v) ≡ Value v
 read-two v h =
-    let k : length (digit 10 v ++ digit 1 v) ≡ 2 = simp (length-append, digit-length) in
-    read-is (digit 10 v ++ digit 1 v) v (omega arith) (omega arith) (digit-read 10 v 0 (digit 1 v) (omega arith) ∙ last-read v _ refl)
+    let k : length (twoDigits v) ≡ 2 = two-length v in
+    read-is (twoDigits v) v (omega arith) (omega arith) (digit-read 10 v 0 (digit 1 v) (omega arith) ∙ last-read v _ refl)
 
 -- ---- a search for what is no digit passes over the digits
 
@@ -126,7 +129,7 @@ module _ (test : ℕ → Bool) (none : (d : ℕ) → d < 10 → test (d + 48) �
       (skips-append test (leading 100 v) _ (leading-skips 100 v)
       (skips-append test (leading 10 v) _ (leading-skips 10 v) (digit-skips 1 v)))
 
-  pub two-skips : (v : ℕ) → Skips test (digit 10 v ++ digit 1 v)
+  pub two-skips : (v : ℕ) → Skips test (twoDigits v)
   two-skips v = skips-append test (digit 10 v) (digit 1 v) (digit-skips 10 v) (digit-skips 1 v)
 
   pub padded-skips : (v : ℕ) → Skips test (padded v)

@@ -75,8 +75,8 @@ pub fn put_two_digits(area: &mut [u8], at: usize, v: u16) -> usize
     requires { ⌜ at + 2 ≤ length (now area) ⌝ }
     ensures { λ r. ⌜ Put (now (area .entry)) at (twoDigits v) r (now (area .exit)) ⌝ }
 {
-    let ones = put_digit(area, at, 10, v);
-    put_digit(area, ones, 1, v)
+    let last = put_digit(area, at, 10, v);
+    put_digit(area, last, 1, v)
 }
 
 // Writes v with 4 digits; of 10000 or more, the last 4.

@@ -1,0 +1,220 @@
+// A row of document 01's table of ranges: how many data an SN of that name has, the name, the number one below
+// its range, the first, the last and the one above it, and for an SN the same of a datum. Each is served to
+// station 1, and a line says what was answered.
+use frame::writer::close_frame;
+use gateway::serve::serve;
+use print::front;
+use print::part;
+use print::put;
+use print::put_slice;
+use print::put_two;
+use text::put::put_bytes;
+ghost use Prim.Native.Nat.{_≤_};
+
+// Puts s behind the first `at` bytes of an area, where it has room.
+fn append(area: &mut [u8; 256], at: usize, s: &[u8]) -> usize
+    requires { ⌜ at ≤ 200 ⌝ }
+    ensures { λ r. ⌜ r ≤ 200 ⌝ }
+{
+    if 200 - at < s.len() {
+        return at;
+    }
+    put_bytes(&mut area[..], at, s)
+}
+
+// SP and the datum of a field: word k of the row where the field is the one that is tried, else 0.
+fn append_datum(area: &mut [u8; 256], at: usize, row: &[u8], is_tried: bool, k: usize) -> usize
+    requires { ⌜ at ≤ 200 ⌝ }
+    ensures { λ r. ⌜ r ≤ 200 ⌝ }
+{
+    let from = append(area, at, b" ");
+    if is_tried {
+        return append(area, from, part(row, b' ', k));
+    }
+    append(area, from, b"0")
+}
+
+// The name of the row with another first letter.
+fn append_name(area: &mut [u8; 256], at: usize, letter: u8, name: &[u8]) -> usize
+    requires { ⌜ at ≤ 200 ⌝ }
+    ensures { λ r. ⌜ r ≤ 200 ⌝ }
+{
+    let from = append(area, at, &[letter]);
+    if name.len() == 0 {
+        return from;
+    }
+    append(area, from, &name[1..])
+}
+
+// What is tried of a row: the name's first letter, how many data are given, the word of the number, the field of
+// the datum that is tried and its word.
+struct Trial {
+    letter: u8,
+    count: u8,
+    number: usize,
+    field: u8,
+    datum: usize,
+}
+
+// Writes the frame of a trial to station 1, without ETX and LRC. Returns where it ends.
+fn write_trial(area: &mut [u8; 256], row: &[u8], trial: Trial) -> usize
+    ensures { λ r. ⌜ r ≤ 200 ⌝ }
+{
+    let name = append(area, 0, b"\x021 ");
+    let space = append_name(area, name, trial.letter, part(row, b' ', 1));
+    let number = append(area, space, b" ");
+    let mut end = append(area, number, part(row, b' ', trial.number));
+    if 0 < trial.count {
+        end = append_datum(area, end, row, trial.field == 1, trial.datum);
+    }
+    if 1 < trial.count {
+        end = append_datum(area, end, row, trial.field == 2, trial.datum);
+    }
+    end
+}
+
+// Serves a trial, and says what was answered.
+fn try_one(
+    t: &mut [[u16; 16]; 4],
+    d: &mut [[u16; 64]; 4],
+    x: &mut [[i32; 100]; 4],
+    y: &mut [[i32; 100]; 4],
+    i: &mut [[u8; 32]; 4],
+    o: &mut [[u8; 32]; 4],
+    m: &mut [[u8; 16]; 4],
+    s: &[u8; 4],
+    row: &[u8],
+    trial: Trial,
+) {
+    let mut area = [0u8; 256];
+    let end = write_trial(&mut area, row, trial);
+    if end == 0 {
+        return;
+    }
+    put(b"range ");
+    put_slice(front(&area, end));
+    let length = close_frame(&mut area, end);
+    let mut reply = [0u8; 64];
+    let sent = serve(t, d, x, y, i, o, m, s, front(&area, length), &mut reply);
+    put(b": ");
+    put_two(sent.number);
+    put(b" ");
+    put_slice(front(&reply, sent.length));
+    put(b"\n");
+}
+
+fn first_letter(row: &[u8]) -> u8 {
+    let name = part(row, b' ', 1);
+    if name.len() == 0 {
+        return 0;
+    }
+    name[0]
+}
+
+// How many data the row says.
+fn count_of(row: &[u8]) -> u8 {
+    if row.len() == 0 {
+        return 0;
+    }
+    if row[0] < b'0' {
+        return 0;
+    }
+    row[0] - b'0'
+}
+
+// The number of word k, with data of 0.
+fn try_number(
+    t: &mut [[u16; 16]; 4],
+    d: &mut [[u16; 64]; 4],
+    x: &mut [[i32; 100]; 4],
+    y: &mut [[i32; 100]; 4],
+    i: &mut [[u8; 32]; 4],
+    o: &mut [[u8; 32]; 4],
+    m: &mut [[u8; 16]; 4],
+    s: &[u8; 4],
+    row: &[u8],
+    k: usize,
+) {
+    let trial = Trial {
+        letter: first_letter(row),
+        count: count_of(row),
+        number: k,
+        field: 0,
+        datum: 0,
+    };
+    try_one(t, d, x, y, i, o, m, s, row, trial);
+}
+
+// The datum of word k in a field, under the first number.
+fn try_datum(
+    t: &mut [[u16; 16]; 4],
+    d: &mut [[u16; 64]; 4],
+    x: &mut [[i32; 100]; 4],
+    y: &mut [[i32; 100]; 4],
+    i: &mut [[u8; 32]; 4],
+    o: &mut [[u8; 32]; 4],
+    m: &mut [[u8; 16]; 4],
+    s: &[u8; 4],
+    row: &[u8],
+    field: u8,
+    k: usize,
+) {
+    let trial = Trial {
+        letter: first_letter(row),
+        count: count_of(row),
+        number: 3,
+        field,
+        datum: k,
+    };
+    try_one(t, d, x, y, i, o, m, s, row, trial);
+}
+
+// The four data of the row in a field, and then the LN of what was stored.
+fn try_field(
+    t: &mut [[u16; 16]; 4],
+    d: &mut [[u16; 64]; 4],
+    x: &mut [[i32; 100]; 4],
+    y: &mut [[i32; 100]; 4],
+    i: &mut [[u8; 32]; 4],
+    o: &mut [[u8; 32]; 4],
+    m: &mut [[u8; 16]; 4],
+    s: &[u8; 4],
+    row: &[u8],
+    field: u8,
+) {
+    if count_of(row) < field {
+        return;
+    }
+    try_datum(t, d, x, y, i, o, m, s, row, field, 6);
+    try_datum(t, d, x, y, i, o, m, s, row, field, 7);
+    try_datum(t, d, x, y, i, o, m, s, row, field, 8);
+    try_datum(t, d, x, y, i, o, m, s, row, field, 9);
+    let trial = Trial {
+        letter: b'L',
+        count: 0,
+        number: 3,
+        field: 0,
+        datum: 0,
+    };
+    try_one(t, d, x, y, i, o, m, s, row, trial);
+}
+
+// Every number and every datum of a row.
+pub fn try_row(
+    t: &mut [[u16; 16]; 4],
+    d: &mut [[u16; 64]; 4],
+    x: &mut [[i32; 100]; 4],
+    y: &mut [[i32; 100]; 4],
+    i: &mut [[u8; 32]; 4],
+    o: &mut [[u8; 32]; 4],
+    m: &mut [[u8; 16]; 4],
+    s: &[u8; 4],
+    row: &[u8],
+) {
+    try_number(t, d, x, y, i, o, m, s, row, 2);
+    try_number(t, d, x, y, i, o, m, s, row, 3);
+    try_number(t, d, x, y, i, o, m, s, row, 4);
+    try_number(t, d, x, y, i, o, m, s, row, 5);
+    try_field(t, d, x, y, i, o, m, s, row, 1);
+    try_field(t, d, x, y, i, o, m, s, row, 2);
+}

@@ -1,0 +1,616 @@
+-- Store and load. An arm is taken as a list of banks of cells. Every item is a cell or a bit of one, and every write
+-- sets one cell, so what is stored and what is kept is argued once, over cells and bits.
+use Prim.Native.Nat.{ℕ, zero, suc, _+_, _-_, _*_, _/_, _%_, _≤_, _<_}
+use mathlib.Core.Path.{_≡_, refl, sym, ap, ap₂, _∙_}
+use mathlib.Core.Bool.{Bool, true, false, cond}
+use mathlib.Core.List.{List, [], _∷_, map}
+use native.Mathlib.Omega.{arith}
+use native.Mathlib.Decide.{ℕ-discrete}
+use borrow.Author.Tests.{eqb-true, le-ltb, le-leb, eq-eqb, ne-eqb}
+use lib.Dec.{eqb}
+use lib.ListN.{length, getD, set, replicate, getD-replicate, length-map, List·getD-map}
+use lib.Seq.{getD-set-same, getD-set-other}
+use lib.IntN.{ℤ, pos, natAbs}
+use Rattle.frame.specs.Frame.{readFrame}
+use Rattle.commands.specs.declared.command.Kind.{Kind}
+use Rattle.commands.specs.declared.command.Kind.the-variants as kind
+use Rattle.commands.specs.declared.command.Rule.{Rule}
+use Rattle.commands.specs.declared.request.Row.{Row}
+use Rattle.commands.specs.declared.request.Load.{Load}
+use Rattle.commands.specs.declared.request.Load.the-variants as load
+use Rattle.commands.specs.declared.request.Store.{Store}
+use Rattle.commands.specs.declared.request.Store.the-variants as store
+use Rattle.commands.specs.declared.request.Request.{Request}
+use Rattle.commands.specs.declared.request.Request.the-variants as request
+use Rattle.commands.specs.Request.{one, port, signal, partsOf}
+use Rattle.harl.specs.declared.reply.Data.the-variants as held
+use Rattle.harl.specs.Data.{limitsOf, allInRange, judge}
+use Rattle.harl.specs.Body.{readBody}
+use Rattle.harl.specs.Reply.{dataOf}
+use Rattle.harl.specs.Message.{ruleFor, judgeRequest, judgeAsked, readRequest, writeRequest, noOutcome, readReply}
+use Rattle.tables.specs.Bits.{bit, withBit}
+use Rattle.tables.specs.Tables.{withInputs, set2, LoadInRange, StoreInRange}
+use Rattle.tables.proofs.Bits.{bit-same, bit-other}
+use Rattle.harl.proofs.Ranges.{passed, in-size, in-nat, all-x}
+use Rattle.harl.proofs.Accepted.{zero-in, accepted-in-range}
+use Rattle.harl.proofs.Requests.{requests-read-back, asked-ok}
+use Rattle.model.specs.Call.{serve, input}
+use Rattle.model.specs.Box.{Box, setupNumber, setup, at, decide, after, run}
+use Rattle.model.specs.Lone.{Arm, holds, replaced, step}
+use Rattle.model.specs.Addressed.{Fitted, isFor, armOf}
+use Rattle.model.specs.Shaped.{Shaped}
+use Rattle.model.specs.Ranges.{InRange, bringsByte}
+use Rattle.model.specs.StoreLoad.{stationAt, told, replies, Write, sn, wired, callTo, Accepts, itemOf, givenBy, portOf, Part, entire, bitAt, partOf, Other, StoreLoad}
+use Rattle.model.proofs.Laws.{one-in, framed}
+use Rattle.model.proofs.Slots.{Apart, setup-apart, concerns, body-concerns, heard, decided}
+use Rattle.model.proofs.Arms.{other}
+use Rattle.model.proofs.Shaped.{after-shaped}
+use Rattle.model.proofs.Setups.{accepted-small}
+use Rattle.model.proofs.Isolation.{after-stations, after-same, run-stations, always-shaped}
+use Rattle.model.proofs.Ranges.{after-in, always-in-range}
+use Rattle.model.proofs.EndToEnd.{exchanged}
+
+-- ---- lists
+
+map-set : {A B : Type 0} (f : A → B) (l : List A) (i : ℕ) (v : A) → map f (set l i v) ≡ set (map f l) i (f v)
+map-set f [] i v = refl
+map-set f (x ∷ l) zero v = refl
+map-set f (x ∷ l) (suc i) v = ap (λ t. f x ∷ t) (map-set f l i v)
+
+-- a row that has place i is in the table
+row-within : {A : Type 0} (t : List (List A)) (c i : ℕ) → i < length (getD t c []) → c < length t
+row-within [] c i h = absurd (omega arith)
+row-within (r ∷ t) zero i h = omega arith
+row-within (r ∷ t) (suc c) i h = omega (arith, row-within t c i h)
+
+-- the columns X and Y as one
+paired : List ℤ → List ℤ → List Row
+paired [] ys = []
+paired (x ∷ xs) [] = []
+paired (x ∷ xs) (y ∷ ys) = record { x = x; y = y } ∷ paired xs ys
+
+paired-set : (xs ys : List ℤ) (i : ℕ) (r : Row) → paired (set xs i (r .x)) (set ys i (r .y)) ≡ set (paired xs ys) i r
+unfolding paired
+paired-set [] ys i r = refl
+paired-set (x ∷ xs) [] zero r = refl
+paired-set (x ∷ xs) [] (suc i) r = refl
+paired-set (x ∷ xs) (y ∷ ys) zero r = refl
+paired-set (x ∷ xs) (y ∷ ys) (suc i) r = ap (λ t. record { x = x; y = y } ∷ t) (paired-set xs ys i r)
+
+paired-at : (xs ys : List ℤ) (i : ℕ) → length xs ≡ length ys
+    → getD (paired xs ys) i (one (pos 0)) ≡ record { x = getD xs i (pos 0); y = getD ys i (pos 0) }
+unfolding paired
+paired-at [] [] i e = refl
+paired-at [] (y ∷ ys) i e = absurd (omega arith)
+paired-at (x ∷ xs) [] i e = absurd (omega arith)
+paired-at (x ∷ xs) (y ∷ ys) zero e = refl
+paired-at (x ∷ xs) (y ∷ ys) (suc i) e = paired-at xs ys i (omega arith)
+
+paired-length : (xs ys : List ℤ) → length xs ≡ length ys → length (paired xs ys) ≡ length xs
+unfolding paired
+paired-length [] ys e = refl
+paired-length (x ∷ xs) [] e = absurd (omega arith)
+paired-length (x ∷ xs) (y ∷ ys) e = ap suc (paired-length xs ys (omega arith))
+
+-- ---- cells
+
+-- a cell's place: its bank, and its number there
+record Place : Type 0 where
+  bank : ℕ
+  index : ℕ
+
+abbrev place : ℕ → ℕ → Place
+place c i = record { bank = c; index = i }
+
+-- what stands there; a number past the end reads as 0
+abbrev cell : List (List Row) → Place → Row
+cell t p = getD (getD t (p .bank) []) (p .index) (one (pos 0))
+
+-- the bank has that number
+abbrev Within : List (List Row) → Place → Type 0
+Within t p = p .index < length (getD t (p .bank) [])
+
+module _ (t : List (List Row)) (p : Place) (v : Row) (h : Within t p) where
+  row-set : getD (set2 t (p .bank) (p .index) v) (p .bank) [] ≡ set (getD t (p .bank) []) (p .index) v
+  row-set = getD-set-same t (p .bank) _ [] (row-within t (p .bank) (p .index) h)
+
+  -- a cell that is set holds its value
+  cell-same : cell (set2 t (p .bank) (p .index) v) p ≡ v
+  cell-same = rw row-set (getD-set-same (getD t (p .bank) []) (p .index) v _ h)
+
+  -- any other keeps its own
+  cell-other : (q : Place) → (p ≡ q → ⊥) → cell (set2 t (p .bank) (p .index) v) q ≡ cell t q
+  cell-other q ne = go (ℕ-discrete (q .bank) (p .bank)) (ℕ-discrete (q .index) (p .index))
+    where
+      go : Dec (q .bank ≡ p .bank) → Dec (q .index ≡ p .index) → cell (set2 t (p .bank) (p .index) v) q ≡ cell t q
+      go (no n) d = ap (λ r. getD r (q .index) (one (pos 0))) (getD-set-other t (p .bank) (q .bank) _ [] n)
+      go (yes e) (no n) = rw (e, row-set) (getD-set-other (getD t (p .bank) []) (p .index) (q .index) v _ n)
+      go (yes e) (yes f) = absurd (ne (ap₂ place (sym e) (sym f)))
+
+-- ---- parts of cells
+
+-- a natural number in a cell
+abbrev nat : ℕ → Row
+nat n = one (pos n)
+
+-- what a part shows of a cell
+abbrev seen : Part → Row → Row
+seen entire r = r
+seen (bitAt n) r = nat (bit (natAbs (r .x)) n)
+
+-- the cell with v for that part
+abbrev merged : Part → Row → Row → Row
+merged entire r v = v
+merged (bitAt n) r v = nat (withBit (natAbs (r .x)) n (natAbs (v .x)))
+
+-- a bit is a bit of a byte
+abbrev Bitwise : Part → Row → Type 0
+Bitwise entire r = Unit
+Bitwise (bitAt n) r = (n < 8) × (natAbs (r .x) < 256)
+
+-- and what is stored there is 0 or 1
+abbrev Binary : Part → Row → Type 0
+Binary entire v = Unit
+Binary (bitAt n) v = (natAbs (v .x) < 2) × (v ≡ nat (natAbs (v .x)))
+
+-- a part that is stored is seen
+seen-same : (p : Part) (r v : Row) → Bitwise p r → Binary p v → seen p (merged p r v) ≡ v
+seen-same entire r v b d = refl
+seen-same (bitAt n) r v b d = ap nat (bit-same (natAbs (r .x)) n (natAbs (v .x)) (b .1) (b .0) (d .0)) ∙ sym (d .1)
+
+-- another bit is seen as before
+seen-other : (n m : ℕ) (r v : Row) → Bitwise (bitAt n) r → Binary (bitAt n) v → m < 8 → (m ≡ n → ⊥)
+    → seen (bitAt m) (merged (bitAt n) r v) ≡ seen (bitAt m) r
+seen-other n m r v b d l ne = ap nat (bit-other (natAbs (r .x)) n (natAbs (v .x)) m (b .1) (b .0) (d .0) l ne)
+
+-- ---- an arm as banks of cells
+
+abbrev banks : Arm → List (List Row)
+banks a =
+    map nat (a .inputs) ∷ map nat (a .outputs) ∷ map nat (a .memory) ∷
+    map nat (a .timers) ∷ map nat (a .registers) ∷ paired (a .x) (a .y) ∷ []
+
+-- the length of each
+abbrev lengths : List ℕ
+lengths = 32 ∷ 32 ∷ 16 ∷ 16 ∷ 64 ∷ 100 ∷ []
+
+-- the cell of an item
+abbrev placed : Load → Place
+placed (load.Timer n) = place 3 n
+placed (load.Register n) = place 4 n
+placed (load.Row n) = place 5 n
+placed (load.Input g) = place 0 (g .0 / 8)
+placed (load.InputPort p) = place 0 (p .0)
+placed (load.Output g) = place 1 (g .0 / 8)
+placed (load.OutputPort p) = place 1 (p .0)
+placed (load.MemoryBit g) = place 2 ((g .0 - 256) / 8)
+placed (load.MemoryPort p) = place 2 (p .0)
+
+-- the item that a cell is, for each bank
+abbrev cellItems : List (ℕ → Load)
+cellItems =
+    (λ n. load.InputPort (port n)) ∷ (λ n. load.OutputPort (port n)) ∷ (λ n. load.MemoryPort (port n)) ∷
+    load.Timer ∷ load.Register ∷ load.Row ∷ []
+
+-- and its signals, by their number in the bank
+abbrev bitItems : List (ℕ → Load)
+bitItems = (λ n. load.Input (signal n)) ∷ (λ n. load.Output (signal n)) ∷ (λ n. load.MemoryBit (signal (n + 256))) ∷ []
+
+-- the item at a part of a cell
+abbrev itemAt : Place → Part → Load
+itemAt p entire = getD cellItems (p .bank) load.Timer (p .index)
+itemAt p (bitAt n) = getD bitItems (p .bank) load.Timer (p .index * 8 + n)
+
+-- the kind of its data
+abbrev kindOf : Load → Kind
+kindOf l = ruleFor (request.Load l) .kind
+
+-- its number is not below the first of its kind
+abbrev Numbered : Load → Type 0
+Numbered l = ruleFor (request.Load l) .first ≤ partsOf (request.Load l) .number
+
+-- what is known of an arm's tables: their lengths, and that ports are bytes
+record Sized (a : Arm) : Type 0 where
+  columns : length (a .x) ≡ length (a .y)
+  sizes : map length (banks a) ≡ lengths
+  inputs : (n : ℕ) → getD (a .inputs) n 0 < 256
+  outputs : (n : ℕ) → getD (a .outputs) n 0 < 256
+  memory : (n : ℕ) → getD (a .memory) n 0 < 256
+
+-- ---- each item is a part of a cell
+
+record Located (a : Arm) (l : Load) : Type 0 where
+  -- an LN answers it
+  answers : holds a l ≡ dataOf (kindOf l) (seen (partOf l) (cell (banks a) (placed l)))
+  -- no other item is that part, and its port is the cell
+  item : itemAt (placed l) (partOf l) ≡ l
+  port : itemAt (placed l) entire ≡ portOf l
+  bits : Bitwise (partOf l) (cell (banks a) (placed l))
+
+nat-at : (l : List ℕ) (i : ℕ) → getD (map nat l) i (one (pos 0)) ≡ nat (getD l i 0)
+nat-at l i = List·getD-map nat l i 0
+
+located : (a : Arm) → Sized a → (l : Load) → Numbered l → Located a l
+unfolding holds
+located a h (load.Timer n) z = record { answers = rw nat-at; item = refl; port = refl; bits = tt }
+located a h (load.Register n) z = record { answers = rw nat-at; item = refl; port = refl; bits = tt }
+located a h (load.Row n) z = record { answers = rw (paired-at (a .x) (a .y) n (h .columns)); item = refl; port = refl; bits = tt }
+located a h (load.Input g) z =
+    let e : g .0 / 8 * 8 + g .0 % 8 ≡ g .0 = omega arith in
+    record { answers = rw nat-at; item = rw e; port = refl; bits = rw nat-at (omega arith, h .inputs (g .0 / 8)) }
+located a h (load.InputPort p) z = record { answers = rw nat-at; item = refl; port = refl; bits = tt }
+located a h (load.Output g) z =
+    let e : g .0 / 8 * 8 + g .0 % 8 ≡ g .0 = omega arith in
+    record { answers = rw nat-at; item = rw e; port = refl; bits = rw nat-at (omega arith, h .outputs (g .0 / 8)) }
+located a h (load.OutputPort p) z = record { answers = rw nat-at; item = refl; port = refl; bits = tt }
+located a h (load.MemoryBit g) z =
+    let e : (g .0 - 256) / 8 * 8 + (g .0 - 256) % 8 + 256 ≡ g .0 = omega arith in
+    record { answers = rw nat-at; item = rw e; port = refl; bits = rw nat-at (omega arith, h .memory ((g .0 - 256) / 8)) }
+located a h (load.MemoryPort p) z = record { answers = rw nat-at; item = refl; port = refl; bits = tt }
+
+-- ---- each write sets a part of a cell
+
+-- the arm with what is written
+abbrev armWith : Arm → Write → Arm
+armWith a (sn slice room q) = replaced a q
+armWith a (wired p v) = withInputs a (set (a .inputs) p v)
+
+-- what is written, as a cell
+abbrev brought : Write → Row
+brought (sn slice room q) = partsOf (request.Store q) .values
+brought (wired p v) = nat v
+
+-- it is in range
+abbrev Ranged : Write → Type 0
+Ranged (sn slice room q) = StoreInRange q
+Ranged (wired p v) = p ≤ 31
+
+-- the cells with it
+abbrev cellsWith : Arm → Write → List (List Row)
+cellsWith a w =
+    let p = placed (itemOf w) in
+    set2 (banks a) (p .bank) (p .index) (merged (partOf (itemOf w)) (cell (banks a) p) (brought w))
+
+record Written (a : Arm) (w : Write) : Type 0 where
+  -- the cell of its item is set, and no other
+  cells : banks (armWith a w) ≡ cellsWith a w
+  -- it is the data given
+  given : dataOf (kindOf (itemOf w)) (brought w) ≡ givenBy w
+  -- that cell is there
+  within : Within (banks a) (placed (itemOf w))
+  numbered : Numbered (itemOf w)
+  binary : Binary (partOf (itemOf w)) (brought w)
+
+-- a number below the length of its bank
+in-bank : (a : Arm) → Sized a → (c i : ℕ) → i < getD lengths c 0 → Within (banks a) (place c i)
+in-bank a h c i l =
+    let e : length (getD (banks a) c []) ≡ getD lengths c 0 = sym (List·getD-map length (banks a) c []) ∙ ap (λ t. getD t c 0) (h .sizes) in
+    omega arith
+
+-- a value whose range starts at 0
+natural : (c : Kind) (v : ℤ) → limitsOf c .low ≡ pos 0 → allInRange c (one v) ≡ true → nat (natAbs v) ≡ one v
+natural c v low h = ap one (sym (in-nat c v low (all-x c (one v) h)))
+
+-- a value of a signal
+binary-in : (v : ℤ) → allInRange kind.Signal (one v) ≡ true → (natAbs v < 2) × (one v ≡ nat (natAbs v))
+binary-in v h = (omega (arith, in-size kind.Signal v (all-x kind.Signal (one v) h)), sym (natural kind.Signal v refl h))
+
+written : (a : Arm) → Sized a → (w : Write) → Ranged w → Written a w
+unfolding replaced
+written a h (sn slice room (store.Timer n v)) e =
+    let p = passed _ _ _ e in
+    record {
+      cells = rw (map-set, natural kind.Timer v refl (p .values));
+      given = refl;
+      within = in-bank a h 3 n (omega (arith, p .high));
+      numbered = p .low;
+      binary = tt;
+    }
+written a h (sn slice room (store.Register n v)) e =
+    let p = passed _ _ _ e in
+    record {
+      cells = rw (map-set, natural kind.Register v refl (p .values));
+      given = refl;
+      within = in-bank a h 4 n (omega (arith, p .high));
+      numbered = p .low;
+      binary = tt;
+    }
+written a h (sn slice room (store.Row n r)) e =
+    let p = passed _ _ _ e in
+    record { cells = rw paired-set; given = refl; within = in-bank a h 5 n (omega (arith, p .high)); numbered = p .low; binary = tt }
+written a h (sn slice room (store.Output g v)) e =
+    let p = passed _ _ _ e in
+    record {
+      cells = rw (map-set, nat-at);
+      given = refl;
+      within = in-bank a h 1 (g .0 / 8) (omega (arith, p .high));
+      numbered = p .low;
+      binary = binary-in v (p .values);
+    }
+written a h (sn slice room (store.OutputPort n v)) e =
+    let p = passed _ _ _ e in
+    record {
+      cells = rw (map-set, natural kind.Port v refl (p .values));
+      given = refl;
+      within = in-bank a h 1 (n .0) (omega (arith, p .high));
+      numbered = p .low;
+      binary = tt;
+    }
+written a h (sn slice room (store.MemoryBit g v)) e =
+    let p = passed _ _ _ e in
+    record {
+      cells = rw (map-set, nat-at);
+      given = refl;
+      within = in-bank a h 2 ((g .0 - 256) / 8) (omega (arith, p .high, p .low));
+      numbered = p .low;
+      binary = binary-in v (p .values);
+    }
+written a h (sn slice room (store.MemoryPort n v)) e =
+    let p = passed _ _ _ e in
+    record {
+      cells = rw (map-set, natural kind.Port v refl (p .values));
+      given = refl;
+      within = in-bank a h 2 (n .0) (omega (arith, p .high));
+      numbered = p .low;
+      binary = tt;
+    }
+written a h (wired n v) e =
+    record { cells = rw map-set; given = refl; within = in-bank a h 0 n (omega arith); numbered = omega arith; binary = tt }
+
+-- ---- what is stored and what is kept, on one arm
+
+same-place : (p q : Place) → Dec (p ≡ q)
+same-place p q = go (ℕ-discrete (p .bank) (q .bank)) (ℕ-discrete (p .index) (q .index))
+  where
+    go : Dec (p .bank ≡ q .bank) → Dec (p .index ≡ q .index) → Dec (p ≡ q)
+    go (no n) d = no (λ e. n (ap (λ (s : Place). s .bank) e))
+    go (yes e) (no n) = no (λ f. n (ap (λ (s : Place). s .index) f))
+    go (yes e) (yes f) = yes (ap₂ place e f)
+
+module _ (a b : Arm) (w : Write) (ha : Sized a) (hb : Sized b) (e : b ≡ armWith a w) (r : Ranged w) where
+  -- the part that is written
+  mine : Located a (itemOf w)
+  mine = located a ha (itemOf w) (written a ha w r .numbered)
+
+  cells-after : banks b ≡ cellsWith a w
+  cells-after = ap banks e ∙ written a ha w r .cells
+
+  -- the cell that is written
+  cell-after : cell (banks b) (placed (itemOf w)) ≡ merged (partOf (itemOf w)) (cell (banks a) (placed (itemOf w))) (brought w)
+  cell-after = rw cells-after (cell-same (banks a) (placed (itemOf w)) _ (written a ha w r .within))
+
+  -- its item
+  held-same : holds b (itemOf w) ≡ givenBy w
+  held-same =
+      let d = written a ha w r in
+      located b hb (itemOf w) (d .numbered) .answers
+      ∙ ap (dataOf (kindOf (itemOf w))) (rw cell-after (seen-same (partOf (itemOf w)) _ (brought w) (mine .bits) (d .binary)))
+      ∙ d .given
+
+  -- another part of that cell
+  part-kept : (l : Load) → Located a l → Other (itemOf w) l → placed (itemOf w) ≡ placed l
+      → (p q : Part) → partOf (itemOf w) ≡ p → partOf l ≡ q
+      → (c : Row) → Bitwise p c → Binary p (brought w) → Bitwise q c → seen q (merged p c (brought w)) ≡ seen q c
+  part-kept l i o s entire entire ep eq c bp v bq =
+      absurd (o .not-item (sym (mine .item) ∙ ap₂ itemAt s (ep ∙ sym eq) ∙ i .item))
+  part-kept l i o s entire (bitAt m) ep eq c bp v bq =
+      absurd (o .not-signal (sym (mine .item) ∙ ap₂ itemAt s ep ∙ i .port))
+  part-kept l i o s (bitAt n) entire ep eq c bp v bq =
+      absurd (o .not-port (sym (mine .port) ∙ ap₂ itemAt s (sym eq) ∙ i .item))
+  part-kept l i o s (bitAt n) (bitAt m) ep eq c bp v bq = seen-other n m c (brought w) bp v (bq .0) apart
+    where
+      apart : m ≡ n → ⊥
+      apart z = o .not-item (sym (mine .item) ∙ ap₂ itemAt s (ep ∙ ap bitAt (sym z) ∙ sym eq) ∙ i .item)
+
+  -- another item
+  held-other : (l : Load) → Numbered l → Other (itemOf w) l → holds b l ≡ holds a l
+  held-other l z o = located b hb l z .answers ∙ ap (dataOf (kindOf l)) (go (same-place (placed (itemOf w)) (placed l))) ∙ sym (i .answers)
+    where
+      i : Located a l
+      i = located a ha l z
+
+      go : Dec (placed (itemOf w) ≡ placed l) → seen (partOf l) (cell (banks b) (placed l)) ≡ seen (partOf l) (cell (banks a) (placed l))
+      go (no n) = rw cells-after (ap (seen (partOf l)) (cell-other (banks a) (placed (itemOf w)) _ (written a ha w r .within) (placed l) n))
+      go (yes s) =
+          ap (seen (partOf l)) (rw s at cell-after)
+          ∙ part-kept l i o s (partOf (itemOf w)) (partOf l) refl refl _ (rw s at (mine .bits)) (written a ha w r .binary) (i .bits)
+
+-- ---- a signal and its port
+
+-- an LN whose number is in its range
+number-ranged : (rule : Rule) (n : ℕ) → rule .first ≤ n → n ≤ rule .last → judge rule n (one (pos 0)) ≡ 0
+unfolding judge
+number-ranged rule n l h = rw (le-ltb n (rule .first) l, le-ltb (rule .last) n h, one-in (rule .kind) (pos 0) (zero-in (rule .kind)))
+
+-- the port of a signal is in range and holds a byte, whose bit the signal is
+abbrev Shown : Arm → Load → Part → Type 0
+Shown a l entire = Unit
+Shown a l (bitAt n) =
+    LoadInRange (portOf l) × ((v : ℕ) × ((holds a (portOf l) ≡ held.Port (pos v)) × (holds a l ≡ held.Signal (pos (bit v n)))))
+
+shown : (a : Arm) (l : Load) → LoadInRange l → Shown a l (partOf l)
+unfolding holds
+shown a (load.Timer n) i = tt
+shown a (load.Register n) i = tt
+shown a (load.Row n) i = tt
+shown a (load.Input g) i = (number-ranged _ (g .0 / 8) (omega arith) (omega (arith, passed _ _ _ i .high)), (_, (refl, refl)))
+shown a (load.InputPort p) i = tt
+shown a (load.Output g) i = (number-ranged _ (g .0 / 8) (omega arith) (omega (arith, passed _ _ _ i .high)), (_, (refl, refl)))
+shown a (load.OutputPort p) i = tt
+shown a (load.MemoryBit g) i = (number-ranged _ ((g .0 - 256) / 8) (omega arith) (omega (arith, passed _ _ _ i .high)), (_, (refl, refl)))
+shown a (load.MemoryPort p) i = tt
+
+-- ---- a box that setup and calls leave
+
+record Ready (b : Box) : Type 0 where
+  apart : Apart (b .stations)
+  small : (k : ℕ) → Fitted k (b .stations) → stationAt b k ≤ 99
+  shaped : Shaped (b .tables)
+  range : InRange (b .tables)
+
+-- the arms of such a box
+sized : (b : Box) → Ready b → (k : ℕ) → k < 4 → Sized (armOf k b)
+sized b r k l =
+    let t = r .shaped in
+    let same = t .x .row k l ∙ sym (t .y .row k l) in
+    record {
+      columns = same;
+      sizes =
+          simp (
+            length-map,
+            paired-length (armOf k b .x) (armOf k b .y) same,
+            t .inputs .row k l,
+            t .outputs .row k l,
+            t .memory .row k l,
+            t .timers .row k l,
+            t .registers .row k l,
+            t .x .row k l,
+          );
+      inputs = λ n. omega (arith, in-size kind.Port _ (r .range .inputs k n));
+      outputs = λ n. omega (arith, in-size kind.Port _ (r .range .outputs k n));
+      memory = λ n. omega (arith, in-size kind.Port _ (r .range .memory k n));
+    }
+
+module _ (b : Box) (r : Ready b) (k : ℕ) (f : Fitted k (b .stations)) where
+  -- a request in range can be written to a fitted slot's station
+  writable : (q : Request) → judgeRequest q ≡ 0 → judgeAsked (stationAt b k) q ≡ 0
+  unfolding judgeAsked
+  writable q e = rw (ne-eqb (stationAt b k) 0 (f .1), le-ltb 99 (stationAt b k) (r .small k f)) e
+
+  -- the answer to an LN that can be written is what the arm holds
+  told-asked : (l : Load) → judgeAsked (stationAt b k) (request.Load l) ≡ 0 → told b k l ≡ replies (holds (armOf k b) l)
+  unfolding told writeRequest
+  told-asked l e = exchanged b k (stationAt b k) (request.Load l) 64 64 refl (r .apart) f (r .shaped) (r .range) e (omega arith) .reply
+
+  told-held : (l : Load) → LoadInRange l → told b k l ≡ replies (holds (armOf k b) l)
+  told-held l e = told-asked l (writable (request.Load l) e)
+
+-- ---- a write that comes to slot k
+
+module _ (b : Box) (r : Ready b) (k : ℕ) (f : Fitted k (b .stations)) where
+  -- it is addressed to that slot
+  addressed : (w : Write) → Accepts (stationAt b k) w → isFor k (b .stations) (callTo k w) ≡ true
+  unfolding isFor readRequest
+  addressed (sn slice room q) h =
+      let o = framed (readFrame slice) (stationAt b k) (request.Store q) (h .1) in
+      rw (le-leb 64 room (h .0), o .number, o .station) (eq-eqb (stationAt b k) _ refl)
+  addressed (wired p v) h =
+      rw (le-leb k 3 (omega arith), ne-eqb (stationAt b k) 0 (f .1), le-leb p 31 (h .0)) (eq-eqb k k refl)
+
+  -- and sets its arm
+  arm-own : (w : Write) → Accepts (stationAt b k) w → armOf k (after b (callTo k w)) ≡ armWith (armOf k b) w
+  unfolding step readRequest
+  arm-own (sn slice room q) h =
+      let o = framed (readFrame slice) (stationAt b k) (request.Store q) (h .1) in
+      rw (o .body) at (after-same b k (serve slice room) (r .apart) f (r .shaped) (addressed (sn slice room q) h) .0)
+  arm-own (wired p v) h = after-same b k (input k p v) (r .apart) f (r .shaped) (addressed (wired p v) h) .0
+
+  -- and no other
+  concerns-own : (w : Write) → concerns (heard k (b .stations) (callTo k w)) ≡ at k
+  concerns-own (sn slice room q) = body-concerns k (stationAt b k) (readBody (readFrame slice .body))
+  concerns-own (wired p v) = refl
+
+  arm-other : (w : Write) → Accepts (stationAt b k) w → (j : ℕ) → (j ≡ k → ⊥) → armOf j (after b (callTo k w)) ≡ armOf j b
+  unfolding after
+  arm-other w h j ne =
+      let d = decided (b .stations) k (callTo k w) (r .apart) f (addressed w h) in
+      other b j (decide (b .stations) (callTo k w)) (λ e. let z : j ≡ k = cc (concerns-own w) in ne z)
+
+  ranged : (w : Write) → Accepts (stationAt b k) w → Ranged w
+  unfolding readRequest
+  ranged (sn slice room q) h =
+      accepted-in-range _ _ (framed (readFrame slice) (stationAt b k) (request.Store q) (h .1) .body)
+  ranged (wired p v) h = h .0
+
+  brings : (w : Write) → Accepts (stationAt b k) w → bringsByte (callTo k w) ≡ true
+  unfolding bringsByte
+  brings (sn slice room q) h = refl
+  brings (wired p v) h = le-leb v 255 (h .1)
+
+  -- the box that it leaves
+  ready-after : (w : Write) → Accepts (stationAt b k) w → Ready (after b (callTo k w))
+  ready-after w h =
+      let e = after-stations b (callTo k w) in
+      record {
+        apart = rw e (r .apart);
+        small = rw e (r .small);
+        shaped = after-shaped b (callTo k w) (r .shaped);
+        range = after-in b (callTo k w) (brings w h) (r .range);
+      }
+
+-- ---- over what is answered
+
+-- an LN that cannot be written to station s is refused by its number alone
+told-refused : (b : Box) (k s : ℕ) (l : Load) → stationAt b k ≡ s → eqb (judgeAsked s (request.Load l)) 0 ≡ false
+    → told b k l ≡ noOutcome (judgeAsked s (request.Load l))
+unfolding told readReply
+told-refused b k s l e z = rw (e, z)
+
+-- two boxes of the same stations answer an LN alike where their arms hold the same under it
+told-alike : (b c : Box) → Ready b → Ready c → c .stations ≡ b .stations → (j : ℕ) → Fitted j (b .stations) → (l : Load)
+    → (LoadInRange l → holds (armOf j c) l ≡ holds (armOf j b) l) → told c j l ≡ told b j l
+told-alike b c rb rc st j f l same = go (eqb (judgeAsked (stationAt b j) (request.Load l)) 0) refl
+  where
+    go : (t : Bool) → eqb (judgeAsked (stationAt b j) (request.Load l)) 0 ≡ t → told c j l ≡ told b j l
+    go true z =
+        let e = eqb-true _ 0 z in
+        told-asked c rc j (rw st f) l (rw st e) ∙ ap replies (same (asked-ok _ _ e .1)) ∙ sym (told-asked b rb j f l e)
+    go false z = told-refused c j _ l (ap (λ t. getD t j 0) st) z ∙ sym (told-refused b j _ l refl z)
+
+module _ (b : Box) (r : Ready b) (k : ℕ) (f : Fitted k (b .stations)) where
+  written-accepted : (q : Store) → StoreInRange q
+      → Accepts (stationAt b k) (sn (writeRequest 64 (stationAt b k) (request.Store q) .bytes) 64 q)
+  unfolding writeRequest
+  written-accepted q e = (omega arith, requests-read-back 64 (stationAt b k) (request.Store q) (writable b r k f (request.Store q) e))
+
+  stored-told : (w : Write) → Accepts (stationAt b k) w → LoadInRange (itemOf w)
+      → told (after b (callTo k w)) k (itemOf w) ≡ replies (givenBy w)
+  stored-told w h i =
+      let c : Box = after b (callTo k w) in
+      let q : Ready c = ready-after b r k f w h in
+      told-held c q k (rw (after-stations b (callTo k w)) f) (itemOf w) i
+      ∙ ap replies (held-same (armOf k b) (armOf k c) w (sized b r k (f .0)) (sized c q k (f .0)) (arm-own b r k f w h) (ranged b r k f w h))
+
+  others-told : (w : Write) → Accepts (stationAt b k) w → (j : ℕ) → Fitted j (b .stations)
+      → (l : Load) → (j ≡ k → Other (itemOf w) l) → told (after b (callTo k w)) j l ≡ told b j l
+  others-told w h j g l o =
+      told-alike b (after b (callTo k w)) r q (after-stations b (callTo k w)) j g l (go (ℕ-discrete j k))
+    where
+      q : Ready (after b (callTo k w))
+      q = ready-after b r k f w h
+
+      go : Dec (j ≡ k) → LoadInRange l → holds (armOf j (after b (callTo k w))) l ≡ holds (armOf j b) l
+      go (yes e) i =
+          rw e (held-other (armOf k b) (armOf k (after b (callTo k w))) w (sized b r k (f .0)) (sized _ q k (f .0))
+          (arm-own b r k f w h) (ranged b r k f w h) l (passed _ _ _ i .low) (o e))
+      go (no n) i = ap (λ a. holds a l) (arm-other b r k f w h j n)
+
+  signals-told : (l : Load) (n : ℕ) → partOf l ≡ bitAt n → LoadInRange l
+      → (v : ℕ) × ((told b k (portOf l) ≡ replies (held.Port (pos v))) × (told b k l ≡ replies (held.Signal (pos (bit v n)))))
+  signals-told l n e i =
+      let s : Shown (armOf k b) l (bitAt n) = rw e at (shown (armOf k b) l i) in
+      (s .1 .0, (told-held b r k f (portOf l) (s .0) ∙ ap replies (s .1 .1 .0), told-held b r k f l i ∙ ap replies (s .1 .1 .1)))
+
+-- ---- from setup
+
+small-station : (want : List ℕ) (k : ℕ) → Fitted k (setup want .stations) → getD (setup want .stations) k 0 ≤ 99
+unfolding setup
+small-station want k f = go (eqb (setupNumber want) 0) refl
+  where
+    go : (t : Bool) → eqb (setupNumber want) 0 ≡ t → getD (cond t want (replicate 4 0)) k 0 ≤ 99
+    go true z = accepted-small want k (eqb-true _ 0 z) (f .0)
+    go false z = omega (arith, getD-replicate {A = ℕ} 4 k 0 0 (f .0))
+
+pub store-load : StoreLoad
+store-load want cs k bytes f =
+    let b : Box = run (setup want) cs in
+    let st : b .stations ≡ setup want .stations = run-stations cs (setup want) in
+    let r : Ready b =
+    record {
+      apart = rw st (setup-apart want);
+      small = rw st (small-station want);
+      shaped = always-shaped want cs;
+      range = always-in-range want cs bytes;
+    } in
+    let g : Fitted k (b .stations) = rw st f in
+    record { writable = written-accepted b r k g; reads-back = stored-told b r k g; others = others-told b r k g; bits = signals-told b r k g }
