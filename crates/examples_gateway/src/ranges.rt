@@ -11,6 +11,16 @@ use print::put_two;
 use text::put::put_bytes;
 ghost use Prim.Native.Nat.{_≤_};
 
+// What is tried of a row: the name's first letter, how many data are given, the word of the number, the field of
+// the datum that is tried and its word.
+struct Trial {
+    letter: u8,
+    count: u8,
+    number: usize,
+    field: u8,
+    datum: usize,
+}
+
 // Puts s behind the first `at` bytes of an area, where it has room.
 fn append(area: &mut [u8; 256], at: usize, s: &[u8]) -> usize
     requires { ⌜ at ≤ 200 ⌝ }
@@ -22,14 +32,18 @@ fn append(area: &mut [u8; 256], at: usize, s: &[u8]) -> usize
     put_bytes(&mut area[..], at, s)
 }
 
-// SP and the datum of a field: word k of the row where the field is the one that is tried, else 0.
-fn append_datum(area: &mut [u8; 256], at: usize, row: &[u8], is_tried: bool, k: usize) -> usize
+// SP and the datum of a field, where the request has that field: the datum that is tried, where it is tried in this
+// field, else 0.
+fn append_datum(area: &mut [u8; 256], at: usize, row: &[u8], field: u8, trial: Trial) -> usize
     requires { ⌜ at ≤ 200 ⌝ }
     ensures { λ r. ⌜ r ≤ 200 ⌝ }
 {
+    if trial.count < field {
+        return at;
+    }
     let from = append(area, at, b" ");
-    if is_tried {
-        return append(area, from, part(row, b' ', k));
+    if trial.field == field {
+        return append(area, from, part(row, b' ', trial.datum));
     }
     append(area, from, b"0")
 }
@@ -46,16 +60,6 @@ fn append_name(area: &mut [u8; 256], at: usize, letter: u8, name: &[u8]) -> usiz
     append(area, from, &name[1..])
 }
 
-// What is tried of a row: the name's first letter, how many data are given, the word of the number, the field of
-// the datum that is tried and its word.
-struct Trial {
-    letter: u8,
-    count: u8,
-    number: usize,
-    field: u8,
-    datum: usize,
-}
-
 // Writes the frame of a trial to station 1, without ETX and LRC. Returns where it ends.
 fn write_trial(area: &mut [u8; 256], row: &[u8], trial: Trial) -> usize
     ensures { λ r. ⌜ r ≤ 200 ⌝ }
@@ -63,14 +67,24 @@ fn write_trial(area: &mut [u8; 256], row: &[u8], trial: Trial) -> usize
     let name = append(area, 0, b"\x021 ");
     let space = append_name(area, name, trial.letter, part(row, b' ', 1));
     let number = append(area, space, b" ");
-    let mut end = append(area, number, part(row, b' ', trial.number));
-    if 0 < trial.count {
-        end = append_datum(area, end, row, trial.field == 1, trial.datum);
+    let first = append(area, number, part(row, b' ', trial.number));
+    let second = append_datum(area, first, row, 1, trial);
+    append_datum(area, second, row, 2, trial)
+}
+
+// Writes ETX and the LRC behind the first n bytes, and returns the length of the frame.
+fn close(area: &mut [u8; 256], n: usize) -> usize
+    requires { ⌜ n ≤ 200 ⌝ }
+{
+    if n == 0 {
+        return 0;
     }
-    if 1 < trial.count {
-        end = append_datum(area, end, row, trial.field == 2, trial.datum);
-    }
-    end
+    close_frame(&mut area[..], n)
+}
+
+// The first n bytes of an area.
+fn first_bytes(area: &[u8; 256], n: usize) -> &[u8] {
+    front(&area[..], n)
 }
 
 // Serves a trial, and says what was answered.
@@ -88,14 +102,22 @@ fn try_one(
 ) {
     let mut area = [0u8; 256];
     let end = write_trial(&mut area, row, trial);
-    if end == 0 {
-        return;
-    }
     put(b"range ");
-    put_slice(front(&area, end));
-    let length = close_frame(&mut area, end);
+    put_slice(first_bytes(&area, end));
+    let length = close(&mut area, end);
     let mut reply = [0u8; 64];
-    let sent = serve(t, d, x, y, i, o, m, s, front(&area, length), &mut reply);
+    let sent = serve(
+        t,
+        d,
+        x,
+        y,
+        i,
+        o,
+        m,
+        s,
+        first_bytes(&area, length),
+        &mut reply,
+    );
     put(b": ");
     put_two(sent.number);
     put(b" ");
