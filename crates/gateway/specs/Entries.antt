@@ -7,7 +7,8 @@ use Rattle.harl.specs.declared.message.Sent.{Sent}
 use Rattle.harl.specs.Message.{Message, Wrote}
 use Rattle.tables.specs.Tables.{Tables}
 use Rattle.model.specs.Call.{serve, input, Answer}
-use Rattle.model.specs.Box.{Box, setupNumber, setup, after, answer}
+use Rattle.model.specs.Setup.{setupNumber}
+use Rattle.model.specs.Box.{Box, setup, after, answer}
 
 -- the box that lent stations and tables are
 abbrev pub box : List ℕ → Tables → Box

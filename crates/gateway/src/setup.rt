@@ -1,66 +1,66 @@
 // Setup: a new box in memory that the caller lends.
 ghost use mathlib.Core.Path.{_≡_};
-ghost use Prim.Native.Nat.{_-_, _≤_};
+ghost use lib.ListN.{drop};
 ghost use Rattle.tables.specs.Tables.{tables, zeros};
-ghost use Rattle.model.specs.Box.{lacks, distinct, small, setupNumber};
+ghost use Rattle.model.specs.Setup.{tooHigh, contains, repeats, setupNumber};
 ghost use Rattle.gateway.specs.Entries.{SetUp};
 
-// Whether none of the slots from `from` on has the station s.
-fn is_lacking(want: [u16; 4], s: u16, from: usize) -> bool
-    requires { ⌜ from ≤ 4 ⌝ }
-    ensures { λ r. ⌜ r ≡ lacks want s (4 - from) from ⌝ }
+// Whether one of the slots from `from` on is given the station s.
+fn is_contained(want: [u16; 4], s: u16, from: usize) -> bool
+    ensures { λ r. ⌜ r ≡ contains s (drop from want) ⌝ }
 {
     let mut i = from;
     while i < 4 {
         if want[i] == s {
-            return false;
+            return true;
         }
         i += 1;
     }
-    true
+    false
 }
 
-// Whether no nonzero station stands twice.
-fn is_distinct(want: [u16; 4]) -> bool
-    ensures { λ r. ⌜ r ≡ distinct want 4 0 ⌝ }
+// Whether some nonzero station is given twice.
+fn is_repeating(want: [u16; 4]) -> bool
+    ensures { λ r. ⌜ r ≡ repeats want ⌝ }
 {
     let mut i = 0;
     while i < 4 {
         let s = want[i];
         if s != 0 {
-            if !is_lacking(want, s, i + 1) {
-                return false;
+            if is_contained(want, s, i + 1) {
+                return true;
             }
         }
         i += 1;
     }
-    true
+    false
 }
 
-// Whether no station is above 99.
-fn is_small(want: [u16; 4]) -> bool
-    ensures { λ r. ⌜ r ≡ small want 4 0 ⌝ }
+// Whether some station is above 99.
+fn is_too_high(want: [u16; 4]) -> bool
+    ensures { λ r. ⌜ r ≡ tooHigh want ⌝ }
 {
     let mut i = 0;
     while i < 4 {
         if 99 < want[i] {
-            return false;
+            return true;
         }
         i += 1;
     }
-    true
+    false
 }
 
 // Check 13 of four station numbers; 0 where it passes.
 fn judge_setup(want: [u16; 4]) -> u8
     ensures { λ r. ⌜ r ≡ setupNumber want ⌝ }
 {
-    if is_small(want) {
-        if is_distinct(want) {
-            return 0;
-        }
+    if is_too_high(want) {
+        return 13;
     }
-    13
+    if is_repeating(want) {
+        return 13;
+    }
+    0
 }
 
 // Sets every row, register, timer and port to zero.

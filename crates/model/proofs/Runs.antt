@@ -11,7 +11,8 @@ use Rattle.harl.specs.Data.{inRange, allInRange, judge, rowText}
 use Rattle.harl.specs.Body.{readShape, requestOrRefusal, readBody}
 use Rattle.harl.specs.Reply.{statusText, outcomeText}
 use Rattle.tables.specs.Tables.{loaded, stored, zeros}
-use Rattle.model.specs.Box.{lacks, distinct, small, setupNumber, setup, scan, slotOf, decide, perform, respond, after, answer}
+use Rattle.model.specs.Setup.{tooHigh, contains, repeats, setupNumber}
+use Rattle.model.specs.Box.{setup, scan, slotOf, decide, perform, respond, after, answer}
 use Rattle.model.specs.Runs.{replayedTurns, Runs}
 
 pub runs-hold : Runs
@@ -20,5 +21,5 @@ unfolding until digitsOnto readWhole digit leading shortest padded
     xorOnto lrcOf first more fields stationOf readInner readFrame opening closing frameOf
     same nameOf among commandOf inRange allInRange judge rowText readShape requestOrRefusal readBody statusText outcomeText
     loaded stored zeros
-    lacks distinct small setupNumber setup scan slotOf decide perform respond after answer replayedTurns
+    tooHigh contains repeats setupNumber setup scan slotOf decide perform respond after answer replayedTurns
 runs-hold = refl

@@ -1,92 +1,108 @@
--- Laws about check 13 of setup: a step of each of its loops, and what it says of the station numbers where it passes.
-use Prim.Native.Nat.{ℕ, zero, suc, _+_, _-_, _≤_, _<_}
+-- Check 13 of setup: the statement of specs/Setup.antt, and what it says of the stations that setup leaves.
+use Prim.Native.Nat.{ℕ, zero, suc, _≤_, _<_}
 use mathlib.Core.Path.{_≡_, refl, sym, _∙_}
-use mathlib.Core.Bool.{Bool, true, false, cond, _&&_}
+use mathlib.Core.Bool.{Bool, true, false, cond, not, _&&_, _||_, or-true}
 use mathlib.Core.List.{List, [], _∷_}
+use mathlib.Core.Logic.{_⊎_, inl, inr}
 use native.Mathlib.Omega.{arith}
-use native.Mathlib.Decide.{ℕ-discrete}
-use native.Mathlib.Numerals.{add-one}
-use borrow.Author.Tests.{eq-eqb, ne-eqb, le-leb, lt-leb, leb-true}
+use borrow.Author.Tests.{ltb-true, ltb-false, eqb-true, eqb-false, not-true, lt-ltb, eq-eqb, ne-eqb}
 use lib.ListN.{length, getD, replicate}
-use lib.Dec.{leb}
+use lib.Dec.{ltb, eqb}
 use Rattle.harl.proofs.Ranges.{and-left, and-right}
-use Rattle.model.specs.Box.{lacks, distinct, small, setupNumber, setup}
+use Rattle.model.specs.Setup.{tooHigh, contains, repeats, setupNumber, TooHigh, Twice, SetupJudged}
+use Rattle.model.specs.Box.{setup}
+use Rattle.model.proofs.Laws.{false-true}
 
--- the slots left, from slot i on
-left : (i : ℕ) → i < 4 → 4 - i ≡ suc (4 - suc i)
-left i h = omega arith
+-- one of two tests holds
+either : (s t : Bool) → s || t ≡ true → (s ≡ true) ⊎ (t ≡ true)
+either true t e = inl refl
+either false t e = inr e
 
--- past the last slot
-none : (i : ℕ) → 4 ≤ i → 4 - i ≡ 0
-none i h = omega arith
+-- ---- a station above 99
 
--- ---- is_lacking
+high-found : (want : List ℕ) (i : ℕ) → 99 < getD want i 0 → tooHigh want ≡ true
+unfolding tooHigh
+high-found [] i h = absurd (omega arith)
+high-found (s ∷ rest) zero h = rw (lt-ltb 99 s h)
+high-found (s ∷ rest) (suc i) h = rw (high-found rest i h, or-true)
 
-pub lacks-hit : (st : List ℕ) (s i : ℕ) → i < 4 → getD st i 0 ≡ s → lacks st s (4 - i) i ≡ false
-unfolding lacks
-lacks-hit st s i h e = rw (left i h, eq-eqb _ _ e)
-
-pub lacks-miss : (st : List ℕ) (s i : ℕ) → i < 4 → (getD st i 0 ≡ s → ⊥) → lacks st s (4 - i) i ≡ lacks st s (4 - (i + 1)) (i + 1)
-unfolding lacks
-lacks-miss st s i h e = rw (add-one i, left i h, ne-eqb _ _ e)
-
-pub lacks-end : (st : List ℕ) (s i : ℕ) → 4 ≤ i → lacks st s (4 - i) i ≡ true
-unfolding lacks
-lacks-end st s i h = rw (none i h)
-
--- ---- is_distinct
-
-pub distinct-unfitted : (st : List ℕ) (i : ℕ) → i < 4 → getD st i 0 ≡ 0 → distinct st (4 - i) i ≡ distinct st (4 - (i + 1)) (i + 1)
-unfolding distinct
-distinct-unfitted st i h e = rw (add-one i, left i h, eq-eqb _ _ e)
-
-pub distinct-once : (st : List ℕ) (i : ℕ) → i < 4 → (getD st i 0 ≡ 0 → ⊥) → lacks st (getD st i 0) (4 - (i + 1)) (i + 1) ≡ true → distinct st (4 - i) i ≡ distinct st (4 - (i + 1)) (i + 1)
-unfolding distinct
-distinct-once st i h e once = let f = rw (add-one i) at once in rw (add-one i, left i h, ne-eqb _ _ e, f)
-
-pub distinct-twice : (st : List ℕ) (i : ℕ) → i < 4 → (getD st i 0 ≡ 0 → ⊥) → lacks st (getD st i 0) (4 - (i + 1)) (i + 1) ≡ false → distinct st (4 - i) i ≡ false
-unfolding distinct
-distinct-twice st i h e twice = let f = rw (add-one i) at twice in rw (left i h, ne-eqb _ _ e, f)
-
-pub distinct-end : (st : List ℕ) (i : ℕ) → 4 ≤ i → distinct st (4 - i) i ≡ true
-unfolding distinct
-distinct-end st i h = rw (none i h)
-
--- ---- is_small
-
-pub small-above : (st : List ℕ) (i : ℕ) → i < 4 → 99 < getD st i 0 → small st (4 - i) i ≡ false
-unfolding small
-small-above st i h e = rw (left i h, lt-leb _ _ e)
-
-pub small-within : (st : List ℕ) (i : ℕ) → i < 4 → getD st i 0 ≤ 99 → small st (4 - i) i ≡ small st (4 - (i + 1)) (i + 1)
-unfolding small
-small-within st i h e = rw (add-one i, left i h, le-leb _ _ e)
-
-pub small-end : (st : List ℕ) (i : ℕ) → 4 ≤ i → small st (4 - i) i ≡ true
-unfolding small
-small-end st i h = rw (none i h)
-
--- ---- setup
-
--- each of the m slots from i on
-small-all : (st : List ℕ) (m i k : ℕ) → small st m i ≡ true → i ≤ k → k < i + m → getD st k 0 ≤ 99
-unfolding small
-small-all st zero i k e l h = absurd (omega arith)
-small-all st (suc m) i k e l h =
-    go (ℕ-discrete i k) (λ l′. small-all st m (suc i) k (and-right (leb (getD st i 0) 99) _ e) l′ (omega arith))
+high-slot : (want : List ℕ) → tooHigh want ≡ true → TooHigh want
+unfolding tooHigh
+high-slot [] e = false-true e
+high-slot (s ∷ rest) e = go (high-slot rest) (either (ltb 99 s) (tooHigh rest) e)
   where
-    go : Dec (i ≡ k) → (suc i ≤ k → getD st k 0 ≤ 99) → getD st k 0 ≤ 99
-    go (yes q) ih = rw q at (leb-true (getD st i 0) 99 (and-left _ _ e))
-    go (no n) ih = ih (omega (arith, n))
+    go : (tooHigh rest ≡ true → TooHigh rest) → (ltb 99 s ≡ true) ⊎ (tooHigh rest ≡ true) → TooHigh (s ∷ rest)
+    go ih (inl h) = record { slot = 0; high = ltb-true 99 s h }
+    go ih (inr h) = let t = ih h in record { slot = suc (t .slot); high = t .high }
+
+-- ---- a nonzero station twice
+
+contains-found : (s : ℕ) (rest : List ℕ) (i : ℕ) → (s ≡ 0 → ⊥) → getD rest i 0 ≡ s → contains s rest ≡ true
+unfolding contains
+contains-found s [] i n e = absurd (n (sym e))
+contains-found s (t ∷ rest) zero n e = rw (eq-eqb t s e)
+contains-found s (t ∷ rest) (suc i) n e = rw (contains-found s rest i n e, or-true)
+
+contains-slot : (s : ℕ) (rest : List ℕ) → contains s rest ≡ true → (i : ℕ) × (getD rest i 0 ≡ s)
+unfolding contains
+contains-slot s [] e = false-true e
+contains-slot s (t ∷ rest) e = go (contains-slot s rest) (either (eqb t s) (contains s rest) e)
+  where
+    go : (contains s rest ≡ true → (i : ℕ) × (getD rest i 0 ≡ s)) → (eqb t s ≡ true) ⊎ (contains s rest ≡ true) → (i : ℕ) × (getD (t ∷ rest) i 0 ≡ s)
+    go ih (inl h) = (0, eqb-true t s h)
+    go ih (inr h) = let (i, q) = ih h in (suc i, q)
+
+repeats-found : (want : List ℕ) (i j : ℕ) → i < j → (getD want i 0 ≡ 0 → ⊥) → getD want j 0 ≡ getD want i 0 → repeats want ≡ true
+unfolding repeats
+repeats-found [] i j l n e = absurd (n refl)
+repeats-found (s ∷ rest) i zero l n e = absurd (omega arith)
+repeats-found (s ∷ rest) zero (suc j) l n e = rw (ne-eqb s 0 n, contains-found s rest j n e)
+repeats-found (s ∷ rest) (suc i) (suc j) l n e = rw (repeats-found rest i j (omega arith) n e, or-true)
+
+repeats-slots : (want : List ℕ) → repeats want ≡ true → Twice want
+unfolding repeats
+repeats-slots [] e = false-true e
+repeats-slots (s ∷ rest) e = go (repeats-slots rest) (either (not (eqb s 0) && contains s rest) (repeats rest) e)
+  where
+    go : (repeats rest ≡ true → Twice rest) → (not (eqb s 0) && contains s rest ≡ true) ⊎ (repeats rest ≡ true) → Twice (s ∷ rest)
+    go ih (inl h) =
+        let (i, q) = contains-slot s rest (and-right (not (eqb s 0)) _ h) in
+        record { slot = 0; later = suc i; order = omega arith; nonzero = eqb-false s 0 (not-true _ (and-left _ _ h)); equal = q }
+    go ih (inr h) =
+        let t = ih h in
+        record { slot = suc (t .slot); later = suc (t .later); order = omega (arith, t .order); nonzero = t .nonzero; equal = t .equal }
+
+-- ---- the statement
+
+pub setup-judged : SetupJudged
+unfolding setupNumber
+setup-judged =
+    record {
+      high = λ want h. rw (high-found want (h .slot) (h .high));
+      twice = λ want t. rw (repeats-found want (t .slot) (t .later) (t .order) (t .nonzero) (t .equal), or-true);
+      only = λ want. only (tooHigh want) (repeats want) (high-slot want) (repeats-slots want);
+      neither = λ want p q. neither (tooHigh want) (repeats want) (λ e. p (high-slot want e)) (λ e. q (repeats-slots want e));
+    }
+  where
+    only : {A B : Type 0} (s t : Bool) → (s ≡ true → A) → (t ≡ true → B) → _≡_ {A = ℕ} (cond (s || t) 13 0) 13 → A ⊎ B
+    only true t p q e = inl (p refl)
+    only false true p q e = inr (q refl)
+    only false false p q e = absurd (omega arith)
+
+    neither : (s t : Bool) → (s ≡ true → ⊥) → (t ≡ true → ⊥) → _≡_ {A = ℕ} (cond (s || t) 13 0) 0
+    neither true t p q = absurd (p refl)
+    neither false true p q = absurd (q refl)
+    neither false false p q = refl
+
+-- ---- what setup leaves
 
 -- accepted: no station is above 99
-pub accepted-small : (want : List ℕ) (k : ℕ) → setupNumber want ≡ 0 → k < 4 → getD want k 0 ≤ 99
-unfolding setupNumber
-accepted-small want k e h = small-all want 4 0 k (go (small want 4 0) (distinct want 4 0) e) (omega arith) (omega arith)
+pub accepted-small : (want : List ℕ) (k : ℕ) → setupNumber want ≡ 0 → getD want k 0 ≤ 99
+accepted-small want k e = go (ltb 99 (getD want k 0)) refl
   where
-    go : (s d : Bool) → _≡_ {A = ℕ} (cond (s && d) 0 13) 0 → s ≡ true
-    go true d e = refl
-    go false d e = absurd (omega arith)
+    go : (t : Bool) → ltb 99 (getD want k 0) ≡ t → getD want k 0 ≤ 99
+    go true h = absurd (omega (arith, setup-judged .high want (record { slot = k; high = ltb-true 99 _ h })))
+    go false h = ltb-false 99 _ h
 
 -- a list of four is its four elements
 four : (st : List ℕ) → length st ≡ 4 → st ≡ getD st 0 0 ∷ getD st 1 0 ∷ getD st 2 0 ∷ getD st 3 0 ∷ []

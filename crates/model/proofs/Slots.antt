@@ -2,7 +2,7 @@
 -- one that the call is addressed to, by `isFor`.
 use Prim.Native.Nat.{ℕ, zero, suc, _+_, _<_, _≤_}
 use mathlib.Core.Path.{_≡_, refl, sym, ap, _∙_}
-use mathlib.Core.Bool.{Bool, true, false, cond, not, _&&_, _||_}
+use mathlib.Core.Bool.{Bool, true, false, cond, not, _&&_}
 use mathlib.Core.List.{List}
 use native.Mathlib.Omega.{arith}
 use native.Mathlib.Decide.{ℕ-discrete}
@@ -15,45 +15,24 @@ use Rattle.harl.specs.declared.body.Judged.the-variants as judged
 use Rattle.harl.specs.Body.{readBody}
 use Rattle.harl.proofs.Ranges.{and-left, and-right}
 use Rattle.model.specs.Call.{Call, serve, input}
-use Rattle.model.specs.Box.{lacks, distinct, small, setupNumber, setup, Slot, nowhere, at, scan, slotOf, Decision, unanswered, refused, accepted, inputSet, decideBody, decideSlot, decideFrame, decide}
+use Rattle.model.specs.Setup.{setupNumber}
+use Rattle.model.specs.Box.{setup, Slot, nowhere, at, scan, slotOf, Decision, unanswered, refused, accepted, inputSet, decideBody, decideSlot, decideFrame, decide}
 use Rattle.model.specs.Addressed.{Fitted, isFor}
+use Rattle.model.proofs.Setups.{setup-judged}
 
 -- ---- no nonzero station stands twice
 
 abbrev pub Apart : List ℕ → Type 0
 Apart st = (a b : ℕ) → a < b → b < 4 → getD st a 0 ≡ getD st b 0 → (getD st a 0 ≡ 0 → ⊥) → ⊥
 
-lacks-not : (st : List ℕ) (s m i : ℕ) → lacks st s m i ≡ true → (k : ℕ) → i ≤ k → k < i + m → getD st k 0 ≡ s → ⊥
-unfolding lacks
-lacks-not st s zero i e k l h q = omega arith
-lacks-not st s (suc m) i e k l h q =
-    let t : Bool = not (eqb (getD st i 0) s) in
-    go (ℕ-discrete i k) (and-left t _ e) (λ l′. lacks-not st s m (suc i) (and-right t _ e) k l′ (omega arith) q)
-  where
-    go : Dec (i ≡ k) → not (eqb (getD st i 0) s) ≡ true → (i < k → ⊥) → ⊥
-    go (yes y) n ih = eqb-false (getD st i 0) s (not-true _ n) (rw y q)
-    go (no y) n ih = ih (omega arith)
-
-distinct-apart : (st : List ℕ) (m i : ℕ) → distinct st m i ≡ true
-    → (a b : ℕ) → i ≤ a → a < b → b < i + m → getD st a 0 ≡ getD st b 0 → (getD st a 0 ≡ 0 → ⊥) → ⊥
-unfolding distinct
-distinct-apart st zero i e a b l₁ l₂ l₃ q f = omega arith
-distinct-apart st (suc m) i e a b l₁ l₂ l₃ q f =
-    let t : Bool = eqb (getD st i 0) 0 || lacks st (getD st i 0) m (suc i) in
-    go (ℕ-discrete i a) (eqb (getD st i 0) 0) refl (and-left t _ e)
-    (λ l. distinct-apart st m (suc i) (and-right t _ e) a b l l₂ (omega arith) q f)
-  where
-    go : Dec (i ≡ a) → (t : Bool) → eqb (getD st i 0) 0 ≡ t → t || lacks st (getD st i 0) m (suc i) ≡ true → (i < a → ⊥) → ⊥
-    go (no y) t et h ih = ih (omega arith)
-    go (yes y) true et h ih = f (rw (← y) (eqb-true _ 0 et))
-    go (yes y) false et h ih = lacks-not st (getD st i 0) m (suc i) h b (omega arith) (omega arith) (rw y (sym q))
-
 pub setup-apart : (want : List ℕ) → Apart (setup want .stations)
-unfolding setup setupNumber
-setup-apart want = go (small want 4 0 && distinct want 4 0) refl
+unfolding setup
+setup-apart want = go (eqb (setupNumber want) 0) refl
   where
-    go : (t : Bool) → small want 4 0 && distinct want 4 0 ≡ t → Apart (cond (eqb (cond t 0 13) 0) want (replicate 4 0))
-    go true e a b l h q f = distinct-apart want 4 0 (and-right (small want 4 0) _ e) a b (omega arith) l (omega arith) q f
+    go : (t : Bool) → eqb (setupNumber want) 0 ≡ t → Apart (cond t want (replicate 4 0))
+    go true e a b l h q f =
+        let n = setup-judged .twice want (record { slot = a; later = b; order = l; nonzero = f; equal = sym q }) in
+        omega (arith, eqb-true (setupNumber want) 0 e)
     go false e a b l h q f = f (getD-replicate 4 a 0 0 (omega arith))
 
 -- ---- the slot of a station

@@ -12,7 +12,8 @@ use Rattle.harl.specs.Body.{readShape, requestOrRefusal, readBody, bodyText}
 use Rattle.harl.specs.Reply.{judgeOutcome, statusText, outcomeText}
 use Rattle.harl.specs.Message.{judgeAsked, writeRequest, judgeReply, writeReply}
 use Rattle.tables.specs.Tables.{loaded, stored, zeros}
-use Rattle.model.specs.Box.{lacks, distinct, small, setupNumber, setup, scan, slotOf, decide, respond, answer}
+use Rattle.model.specs.Setup.{tooHigh, contains, repeats, setupNumber}
+use Rattle.model.specs.Box.{setup, scan, slotOf, decide, respond, answer}
 use Rattle.model.specs.Worked.{resultOf, worked, Worked}
 
 pub worked-out : Worked
@@ -20,5 +21,5 @@ unfolding resultOf worked until readWhole digitsOnto digit leading shortest padd
     readHundredths magnitudeText hundredthsText xorOnto lrcOf opening closing frameOf first more fields same
     nameOf among commandOf inRange allInRange judge readShape requestOrRefusal readBody bodyText judgeOutcome statusText
     outcomeText judgeAsked writeRequest judgeReply writeReply stationOf readInner readFrame loaded stored zeros
-    lacks distinct small setupNumber setup scan slotOf decide respond answer
+    tooHigh contains repeats setupNumber setup scan slotOf decide respond answer
 worked-out = refl

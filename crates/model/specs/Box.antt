@@ -2,10 +2,10 @@
 -- what a call does. `decide` makes every test, from the call and the stations alone; `perform` and `respond`
 -- go by its cases and make none.
 use Prim.Native.Nat.{ℕ, zero, suc}
-use mathlib.Core.Bool.{Bool, true, cond, not, _&&_, _||_}
+use mathlib.Core.Bool.{Bool, cond}
 use mathlib.Core.List.{List, [], _∷_}
 use lib.ListN.{getD, replicate}
-use lib.Dec.{ltb, leb, eqb}
+use lib.Dec.{ltb, eqb}
 use Rattle.frame.specs.Frame.{Reading, readFrame, frameOf}
 use Rattle.commands.specs.declared.request.Request.{Request}
 use Rattle.harl.specs.declared.body.Judged.{Judged}
@@ -14,6 +14,7 @@ use Rattle.harl.specs.Body.{readBody}
 use Rattle.harl.specs.Reply.{performedText, refusalText}
 use Rattle.tables.specs.Tables.{Tables, withInputs, set2, performed, outcomeAt, zeros}
 use Rattle.model.specs.Call.{Call, serve, input, Answer, noReply}
+use Rattle.model.specs.Setup.{setupNumber}
 
 -- a station of 0 leaves its slot unfitted
 pub record Box : Type 0 where
@@ -21,25 +22,6 @@ pub record Box : Type 0 where
   pub tables : Tables
 
 -- ---- setup
-
--- of the m slots from i on: none has the station s
-unfoldable pub lacks : List ℕ → ℕ → ℕ → ℕ → Bool
-lacks st s zero i = true
-lacks st s (suc m) i = not (eqb (getD st i 0) s) && lacks st s m (suc i)
-
--- no nonzero station stands twice
-unfoldable pub distinct : List ℕ → ℕ → ℕ → Bool
-distinct st zero i = true
-distinct st (suc m) i = (eqb (getD st i 0) 0 || lacks st (getD st i 0) m (suc i)) && distinct st m (suc i)
-
--- no station is above 99
-unfoldable pub small : List ℕ → ℕ → ℕ → Bool
-small st zero i = true
-small st (suc m) i = leb (getD st i 0) 99 && small st m (suc i)
-
--- 13 SETUP: a station above 99, or one nonzero station twice
-unfoldable pub setupNumber : List ℕ → ℕ
-setupNumber want = cond (small want 4 0 && distinct want 4 0) 0 13
 
 -- the box that setup yields, with every table zero; refused, with no arm fitted
 unfoldable pub setup : List ℕ → Box

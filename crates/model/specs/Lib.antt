@@ -1,4 +1,5 @@
 pub mod Call
+pub mod Setup
 pub mod Box
 pub mod Lone
 pub mod Addressed

@@ -4,7 +4,8 @@ use mathlib.Core.Path.{_≡_}
 use mathlib.Core.List.{List, [], _∷_, _++_, map}
 use Rattle.frame.specs.Frame.{frameOf}
 use Rattle.model.specs.Call.{Call, serve, input, Answer, noReply}
-use Rattle.model.specs.Box.{Box, setupNumber, setup, after, answer}
+use Rattle.model.specs.Setup.{setupNumber}
+use Rattle.model.specs.Box.{Box, setup, after, answer}
 
 -- a call and its answer
 pub record Turn : Type 0 where
@@ -93,13 +94,35 @@ unansweredTurns =
     gives (input 0 32 1) 14 ∷
     []
 
--- four arms; station 1 twice, so that no arm is fitted; a station above 99; one arm, in slot 1
+-- the last slot, port and byte that an input call may name, and the first; slot 1 is unfitted, and there is no slot 4
+abbrev pub inputTurns : List Turn
+inputTurns =
+    gives (input 3 31 255) 0 ∷
+    -- LNID 31: 255
+    asks 1 (76 ∷ 78 ∷ 73 ∷ 68 ∷ 32 ∷ 51 ∷ 49 ∷ []) 0 (50 ∷ 53 ∷ 53 ∷ []) ∷
+    gives (input 0 0 1) 0 ∷
+    gives (input 0 0 0) 0 ∷
+    -- LNID 0: 0
+    asks 99 (76 ∷ 78 ∷ 73 ∷ 68 ∷ 32 ∷ 48 ∷ []) 0 (48 ∷ []) ∷
+    gives (input 1 0 1) 14 ∷
+    gives (input 4 0 1) 14 ∷
+    []
+
 abbrev pub runs : List Run
 runs =
+    -- four arms
     record { want = 1 ∷ 2 ∷ 3 ∷ 4 ∷ []; number = 0; turns = registerTurns ++ (rowTurns ++ (portTurns ++ unansweredTurns)) } ∷
-    record { want = 1 ∷ 2 ∷ 1 ∷ 0 ∷ []; number = 13; turns = gives (serve (frameOf 1 lnd) 64) 8 ∷ gives (input 0 0 1) 14 ∷ [] } ∷
-    record { want = 100 ∷ 0 ∷ 0 ∷ 0 ∷ []; number = 13; turns = [] } ∷
+    -- the highest station and the lowest, in the first slot and the last
+    record { want = 99 ∷ 0 ∷ 0 ∷ 1 ∷ []; number = 0; turns = inputTurns } ∷
+    -- one arm, in slot 1
     record { want = 0 ∷ 7 ∷ 0 ∷ 0 ∷ []; number = 0; turns = gives (input 0 0 1) 14 ∷ gives (input 1 0 1) 0 ∷ [] } ∷
+    -- station 1 twice, so that no arm is fitted
+    record { want = 1 ∷ 2 ∷ 1 ∷ 0 ∷ []; number = 13; turns = gives (serve (frameOf 1 lnd) 64) 8 ∷ gives (input 0 0 1) 14 ∷ [] } ∷
+    -- station 7 in the first slot and the last
+    record { want = 7 ∷ 0 ∷ 1 ∷ 7 ∷ []; number = 13; turns = [] } ∷
+    -- a station above 99, in the first slot and behind another
+    record { want = 100 ∷ 0 ∷ 0 ∷ 0 ∷ []; number = 13; turns = [] } ∷
+    record { want = 1 ∷ 100 ∷ 0 ∷ 0 ∷ []; number = 13; turns = gives (serve (frameOf 1 lnd) 64) 8 ∷ [] } ∷
     []
 
 -- the box goes through every run as it stands here (proved in proofs/Runs.antt)

@@ -1,5 +1,5 @@
 -- Accepted, `want` is its four elements, each at most 99, so that its casts are itself.
-use Prim.Native.Nat.{ℕ, _≤_, _<_}
+use Prim.Native.Nat.{ℕ, _≤_}
 use mathlib.Core.Path.{sym, _∙_}
 use native.Mathlib.Omega.{arith}
 use borrow.Author.Needs.{needs}
@@ -12,8 +12,8 @@ use Rattle.gateway.proofs.setup.setup.Statement.{statement}
 use Rattle.gateway.proofs.setup.setup.Tie as tie
 
 -- where setup is accepted, a station fits a byte
-fits : (c : tie.Else1) (k : ℕ) → k < 4 → getD (c .before .before .before .before .before .before .before .before .before .before .args .t9) k 0 ≤ 99
-fits c k h = accepted-small _ k (sym (c .before .judge-setup .ensures) ∙ c .if1 .left) h
+fits : (c : tie.Else1) (k : ℕ) → getD (c .before .before .before .before .before .before .before .before .before .before .args .t9) k 0 ≤ 99
+fits c k = accepted-small _ k (sym (c .before .judge-setup .ensures) ∙ c .if1 .left)
 
 clear-requires : tie.Need-clear-requires
 clear-requires c κs = search needs
@@ -35,25 +35,25 @@ array-read-t24 : tie.Need-array-read-t24
 array-read-t24 c = search needs
 
 cast-t25 : tie.Need-cast-t25
-cast-t25 c = omega (arith, fits c 0 (omega arith))
+cast-t25 c = omega (arith, fits c 0)
 
 array-read-t28 : tie.Need-array-read-t28
 array-read-t28 c = search needs
 
 cast-t29 : tie.Need-cast-t29
-cast-t29 c = omega (arith, fits c 1 (omega arith))
+cast-t29 c = omega (arith, fits c 1)
 
 array-read-t32 : tie.Need-array-read-t32
 array-read-t32 c = search needs
 
 cast-t33 : tie.Need-cast-t33
-cast-t33 c = omega (arith, fits c 2 (omega arith))
+cast-t33 c = omega (arith, fits c 2)
 
 array-read-t36 : tie.Need-array-read-t36
 array-read-t36 c = search needs
 
 cast-t37 : tie.Need-cast-t37
-cast-t37 c = omega (arith, fits c 3 (omega arith))
+cast-t37 c = omega (arith, fits c 3)
 
 returns-2 : tie.Need-returns-2
 unfolding setup
