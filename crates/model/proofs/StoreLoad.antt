@@ -35,7 +35,8 @@ use Rattle.harl.proofs.Ranges.{passed, in-size, in-nat, all-x}
 use Rattle.harl.proofs.Accepted.{zero-in, accepted-in-range}
 use Rattle.harl.proofs.Requests.{requests-read-back, asked-ok}
 use Rattle.model.specs.Call.{serve, input}
-use Rattle.model.specs.Box.{Box, setupNumber, setup, at, decide, after, run}
+use Rattle.model.specs.Setup.{setupNumber}
+use Rattle.model.specs.Box.{Box, setup, at, decide, after, run}
 use Rattle.model.specs.Lone.{Arm, holds, replaced, step}
 use Rattle.model.specs.Addressed.{Fitted, isFor, armOf}
 use Rattle.model.specs.Shaped.{Shaped}
@@ -598,7 +599,7 @@ unfolding setup
 small-station want k f = go (eqb (setupNumber want) 0) refl
   where
     go : (t : Bool) → eqb (setupNumber want) 0 ≡ t → getD (cond t want (replicate 4 0)) k 0 ≤ 99
-    go true z = accepted-small want k (eqb-true _ 0 z) (f .0)
+    go true z = accepted-small want k (eqb-true _ 0 z)
     go false z = omega (arith, getD-replicate {A = ℕ} 4 k 0 0 (f .0))
 
 pub store-load : StoreLoad
