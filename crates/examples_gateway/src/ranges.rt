@@ -15,9 +15,9 @@ ghost use Prim.Native.Nat.{_≤_};
 // the datum that is tried and its word.
 struct Trial {
     letter: u8,
-    count: u8,
+    count: usize,
     number: usize,
-    field: u8,
+    field: usize,
     datum: usize,
 }
 
@@ -34,7 +34,7 @@ fn append(area: &mut [u8; 256], at: usize, s: &[u8]) -> usize
 
 // SP and the datum of a field, where the request has that field: the datum that is tried, where it is tried in this
 // field, else 0.
-fn append_datum(area: &mut [u8; 256], at: usize, row: &[u8], field: u8, trial: Trial) -> usize
+fn append_datum(area: &mut [u8; 256], at: usize, row: &[u8], field: usize, trial: Trial) -> usize
     requires { ⌜ at ≤ 200 ⌝ }
     ensures { λ r. ⌜ r ≤ 200 ⌝ }
 {
@@ -134,94 +134,52 @@ fn first_letter(row: &[u8]) -> u8 {
 }
 
 // How many data the row says.
-fn count_of(row: &[u8]) -> u8 {
+fn count_of(row: &[u8]) -> usize
+    ensures { λ r. ⌜ r ≤ 2 ⌝ }
+{
     if row.len() == 0 {
         return 0;
     }
-    if row[0] < b'0' {
-        return 0;
+    match row[0] {
+        b'1' => 1,
+        b'2' => 2,
+        _ => 0,
     }
-    row[0] - b'0'
 }
 
-// The number of word k, with data of 0.
-fn try_number(
-    t: &mut [[u16; 16]; 4],
-    d: &mut [[u16; 64]; 4],
-    x: &mut [[i32; 100]; 4],
-    y: &mut [[i32; 100]; 4],
-    i: &mut [[u8; 32]; 4],
-    o: &mut [[u8; 32]; 4],
-    m: &mut [[u8; 16]; 4],
-    s: &[u8; 4],
-    row: &[u8],
-    k: usize,
-) {
-    let trial = Trial {
-        letter: first_letter(row),
-        count: count_of(row),
-        number: k,
-        field: 0,
-        datum: 0,
-    };
-    try_one(t, d, x, y, i, o, m, s, row, trial);
-}
-
-// The datum of word k in a field, under the first number.
-fn try_datum(
-    t: &mut [[u16; 16]; 4],
-    d: &mut [[u16; 64]; 4],
-    x: &mut [[i32; 100]; 4],
-    y: &mut [[i32; 100]; 4],
-    i: &mut [[u8; 32]; 4],
-    o: &mut [[u8; 32]; 4],
-    m: &mut [[u8; 16]; 4],
-    s: &[u8; 4],
-    row: &[u8],
-    field: u8,
-    k: usize,
-) {
-    let trial = Trial {
+// Trial n of a row: the four numbers with data of 0, and then for each field the four data under the first number and
+// the LN of what was stored.
+fn trial_of(row: &[u8], n: usize) -> Trial
+    requires { ⌜ n ≤ 14 ⌝ }
+{
+    if n < 4 {
+        return Trial {
+            letter: first_letter(row),
+            count: count_of(row),
+            number: 2 + n,
+            field: 0,
+            datum: 0,
+        };
+    }
+    if n % 5 == 3 {
+        return Trial {
+            letter: b'L',
+            count: 0,
+            number: 3,
+            field: 0,
+            datum: 0,
+        };
+    }
+    Trial {
         letter: first_letter(row),
         count: count_of(row),
         number: 3,
-        field,
-        datum: k,
-    };
-    try_one(t, d, x, y, i, o, m, s, row, trial);
-}
-
-// The four data of the row in a field, and then the LN of what was stored.
-fn try_field(
-    t: &mut [[u16; 16]; 4],
-    d: &mut [[u16; 64]; 4],
-    x: &mut [[i32; 100]; 4],
-    y: &mut [[i32; 100]; 4],
-    i: &mut [[u8; 32]; 4],
-    o: &mut [[u8; 32]; 4],
-    m: &mut [[u8; 16]; 4],
-    s: &[u8; 4],
-    row: &[u8],
-    field: u8,
-) {
-    if count_of(row) < field {
-        return;
+        field: (n + 1) / 5,
+        datum: 6 + (n + 1) % 5,
     }
-    try_datum(t, d, x, y, i, o, m, s, row, field, 6);
-    try_datum(t, d, x, y, i, o, m, s, row, field, 7);
-    try_datum(t, d, x, y, i, o, m, s, row, field, 8);
-    try_datum(t, d, x, y, i, o, m, s, row, field, 9);
-    let trial = Trial {
-        letter: b'L',
-        count: 0,
-        number: 3,
-        field: 0,
-        datum: 0,
-    };
-    try_one(t, d, x, y, i, o, m, s, row, trial);
 }
 
-// Every number and every datum of a row.
+// Every trial of a row.
 pub fn try_row(
     t: &mut [[u16; 16]; 4],
     d: &mut [[u16; 64]; 4],
@@ -233,10 +191,7 @@ pub fn try_row(
     s: &[u8; 4],
     row: &[u8],
 ) {
-    try_number(t, d, x, y, i, o, m, s, row, 2);
-    try_number(t, d, x, y, i, o, m, s, row, 3);
-    try_number(t, d, x, y, i, o, m, s, row, 4);
-    try_number(t, d, x, y, i, o, m, s, row, 5);
-    try_field(t, d, x, y, i, o, m, s, row, 1);
-    try_field(t, d, x, y, i, o, m, s, row, 2);
+    for n in 0..4 + 5 * count_of(row) {
+        try_one(t, d, x, y, i, o, m, s, row, trial_of(row, n));
+    }
 }

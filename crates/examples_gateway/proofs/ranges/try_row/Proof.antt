@@ -1,0 +1,58 @@
+-- The invariant: there are at most 14 trials. The measure: those left.
+use Prim.Native.Nat.{_≤_, _-_}
+use borrow.Author.Needs.{needs}
+use Rattle.examples_gateway.proofs.ranges.try_row.Statement.{statement}
+use Rattle.examples_gateway.proofs.ranges.try_row.Tie as tie
+
+abbrev Inv-loop : tie.InvT-loop
+Inv-loop t₀ d₀ x₀ y₀ i₀ o₀ m₀ s row n₀ n-end t d x y i o m n = n-end ≤ 14
+
+abbrev μ-loop : tie.MeasureT-loop
+μ-loop t₀ d₀ x₀ y₀ i₀ o₀ m₀ s row n₀ n-end t d x y i o m n = n-end - n
+
+count-of-requires : tie.Need-count-of-requires Inv-loop μ-loop
+count-of-requires c κs = search needs
+
+mul-n-end : tie.Need-mul-n-end Inv-loop μ-loop
+mul-n-end c = search needs
+
+add-n-end : tie.Need-add-n-end Inv-loop μ-loop
+add-n-end c = search needs
+
+loop-holds : tie.Need-loop-holds Inv-loop μ-loop
+loop-holds c = search needs
+
+trial-of-requires : tie.Need-trial-of-requires Inv-loop μ-loop
+trial-of-requires c κs = search needs
+
+try-one-requires : tie.Need-try-one-requires Inv-loop μ-loop
+try-one-requires c κs = search needs
+
+add-n : tie.Need-add-n Inv-loop μ-loop
+add-n c = search needs
+
+loop-less : tie.Need-loop-less Inv-loop μ-loop
+loop-less c = search needs
+
+loop-again : tie.Need-loop-again Inv-loop μ-loop
+loop-again c = search needs
+
+returns : tie.Need-returns Inv-loop μ-loop
+returns c = search needs
+
+pub try-row-spec : {M : Type 1} → statement M
+try-row-spec =
+    tie.close
+    (tie.spec
+    Inv-loop
+    μ-loop
+    count-of-requires
+    mul-n-end
+    add-n-end
+    loop-holds
+    trial-of-requires
+    try-one-requires
+    add-n
+    loop-less
+    loop-again
+    returns)
