@@ -41,7 +41,7 @@ use Rattle.model.specs.Lone.{Arm, holds, replaced, step}
 use Rattle.model.specs.Addressed.{Fitted, isFor, armOf}
 use Rattle.model.specs.Shaped.{Shaped}
 use Rattle.model.specs.Ranges.{InRange, bringsByte}
-use Rattle.model.specs.StoreLoad.{stationAt, told, replies, Write, sn, wired, callTo, Accepts, itemOf, givenBy, portOf, Part, entire, bitAt, partOf, Other, StoreLoad}
+use Rattle.model.specs.StoreLoad.{stationAt, told, replies, Write, sn, wired, callTo, Accepts, itemOf, givenBy, portOf, View, entire, bitAt, viewOf, Other, StoreLoad}
 use Rattle.model.proofs.Laws.{one-in, framed}
 use Rattle.model.proofs.Slots.{Apart, setup-apart, concerns, body-concerns, heard, decided}
 use Rattle.model.proofs.Arms.{other}
@@ -135,27 +135,27 @@ abbrev nat : ℕ → Row
 nat n = one (pos n)
 
 -- what a part shows of a cell
-abbrev seen : Part → Row → Row
+abbrev seen : View → Row → Row
 seen entire r = r
 seen (bitAt n) r = nat (bit (natAbs (r .x)) n)
 
 -- the cell with v for that part
-abbrev merged : Part → Row → Row → Row
+abbrev merged : View → Row → Row → Row
 merged entire r v = v
 merged (bitAt n) r v = nat (withBit (natAbs (r .x)) n (natAbs (v .x)))
 
 -- a bit is a bit of a byte
-abbrev Bitwise : Part → Row → Type 0
+abbrev Bitwise : View → Row → Type 0
 Bitwise entire r = Unit
 Bitwise (bitAt n) r = (n < 8) × (natAbs (r .x) < 256)
 
 -- and what is stored there is 0 or 1
-abbrev Binary : Part → Row → Type 0
+abbrev Binary : View → Row → Type 0
 Binary entire v = Unit
 Binary (bitAt n) v = (natAbs (v .x) < 2) × (v ≡ nat (natAbs (v .x)))
 
 -- a part that is stored is seen
-seen-same : (p : Part) (r v : Row) → Bitwise p r → Binary p v → seen p (merged p r v) ≡ v
+seen-same : (p : View) (r v : Row) → Bitwise p r → Binary p v → seen p (merged p r v) ≡ v
 seen-same entire r v b d = refl
 seen-same (bitAt n) r v b d = ap nat (bit-same (natAbs (r .x)) n (natAbs (v .x)) (b .1) (b .0) (d .0)) ∙ sym (d .1)
 
@@ -198,7 +198,7 @@ abbrev bitItems : List (ℕ → Load)
 bitItems = (λ n. load.Input (signal n)) ∷ (λ n. load.Output (signal n)) ∷ (λ n. load.MemoryBit (signal (n + 256))) ∷ []
 
 -- the item at a part of a cell
-abbrev itemAt : Place → Part → Load
+abbrev itemAt : Place → View → Load
 itemAt p entire = getD cellItems (p .bank) load.Timer (p .index)
 itemAt p (bitAt n) = getD bitItems (p .bank) load.Timer (p .index * 8 + n)
 
@@ -222,11 +222,11 @@ record Sized (a : Arm) : Type 0 where
 
 record Located (a : Arm) (l : Load) : Type 0 where
   -- an LN answers it
-  answers : holds a l ≡ dataOf (kindOf l) (seen (partOf l) (cell (banks a) (placed l)))
+  answers : holds a l ≡ dataOf (kindOf l) (seen (viewOf l) (cell (banks a) (placed l)))
   -- no other item is that part, and its port is the cell
-  item : itemAt (placed l) (partOf l) ≡ l
+  item : itemAt (placed l) (viewOf l) ≡ l
   port : itemAt (placed l) entire ≡ portOf l
-  bits : Bitwise (partOf l) (cell (banks a) (placed l))
+  bits : Bitwise (viewOf l) (cell (banks a) (placed l))
 
 nat-at : (l : List ℕ) (i : ℕ) → getD (map nat l) i (one (pos 0)) ≡ nat (getD l i 0)
 nat-at l i = List·getD-map nat l i 0
@@ -270,7 +270,7 @@ Ranged (wired p v) = p ≤ 31
 abbrev cellsWith : Arm → Write → List (List Row)
 cellsWith a w =
     let p = placed (itemOf w) in
-    set2 (banks a) (p .bank) (p .index) (merged (partOf (itemOf w)) (cell (banks a) p) (brought w))
+    set2 (banks a) (p .bank) (p .index) (merged (viewOf (itemOf w)) (cell (banks a) p) (brought w))
 
 record Written (a : Arm) (w : Write) : Type 0 where
   -- the cell of its item is set, and no other
@@ -280,7 +280,7 @@ record Written (a : Arm) (w : Write) : Type 0 where
   -- that cell is there
   within : Within (banks a) (placed (itemOf w))
   numbered : Numbered (itemOf w)
-  binary : Binary (partOf (itemOf w)) (brought w)
+  binary : Binary (viewOf (itemOf w)) (brought w)
 
 -- a number below the length of its bank
 in-bank : (a : Arm) → Sized a → (c i : ℕ) → i < getD lengths c 0 → Within (banks a) (place c i)
@@ -377,7 +377,7 @@ module _ (a b : Arm) (w : Write) (ha : Sized a) (hb : Sized b) (e : b ≡ armWit
   cells-after = ap banks e ∙ written a ha w r .cells
 
   -- the cell that is written
-  cell-after : cell (banks b) (placed (itemOf w)) ≡ merged (partOf (itemOf w)) (cell (banks a) (placed (itemOf w))) (brought w)
+  cell-after : cell (banks b) (placed (itemOf w)) ≡ merged (viewOf (itemOf w)) (cell (banks a) (placed (itemOf w))) (brought w)
   cell-after = rw cells-after (cell-same (banks a) (placed (itemOf w)) _ (written a ha w r .within))
 
   -- its item
@@ -385,12 +385,12 @@ module _ (a b : Arm) (w : Write) (ha : Sized a) (hb : Sized b) (e : b ≡ armWit
   held-same =
       let d = written a ha w r in
       located b hb (itemOf w) (d .numbered) .answers
-      ∙ ap (dataOf (kindOf (itemOf w))) (rw cell-after (seen-same (partOf (itemOf w)) _ (brought w) (mine .bits) (d .binary)))
+      ∙ ap (dataOf (kindOf (itemOf w))) (rw cell-after (seen-same (viewOf (itemOf w)) _ (brought w) (mine .bits) (d .binary)))
       ∙ d .given
 
   -- another part of that cell
   part-kept : (l : Load) → Located a l → Other (itemOf w) l → placed (itemOf w) ≡ placed l
-      → (p q : Part) → partOf (itemOf w) ≡ p → partOf l ≡ q
+      → (p q : View) → viewOf (itemOf w) ≡ p → viewOf l ≡ q
       → (c : Row) → Bitwise p c → Binary p (brought w) → Bitwise q c → seen q (merged p c (brought w)) ≡ seen q c
   part-kept l i o s entire entire ep eq c bp v bq =
       absurd (o .not-item (sym (mine .item) ∙ ap₂ itemAt s (ep ∙ sym eq) ∙ i .item))
@@ -410,11 +410,11 @@ module _ (a b : Arm) (w : Write) (ha : Sized a) (hb : Sized b) (e : b ≡ armWit
       i : Located a l
       i = located a ha l z
 
-      go : Dec (placed (itemOf w) ≡ placed l) → seen (partOf l) (cell (banks b) (placed l)) ≡ seen (partOf l) (cell (banks a) (placed l))
-      go (no n) = rw cells-after (ap (seen (partOf l)) (cell-other (banks a) (placed (itemOf w)) _ (written a ha w r .within) (placed l) n))
+      go : Dec (placed (itemOf w) ≡ placed l) → seen (viewOf l) (cell (banks b) (placed l)) ≡ seen (viewOf l) (cell (banks a) (placed l))
+      go (no n) = rw cells-after (ap (seen (viewOf l)) (cell-other (banks a) (placed (itemOf w)) _ (written a ha w r .within) (placed l) n))
       go (yes s) =
-          ap (seen (partOf l)) (rw s at cell-after)
-          ∙ part-kept l i o s (partOf (itemOf w)) (partOf l) refl refl _ (rw s at (mine .bits)) (written a ha w r .binary) (i .bits)
+          ap (seen (viewOf l)) (rw s at cell-after)
+          ∙ part-kept l i o s (viewOf (itemOf w)) (viewOf l) refl refl _ (rw s at (mine .bits)) (written a ha w r .binary) (i .bits)
 
 -- ---- a signal and its port
 
@@ -424,12 +424,12 @@ unfolding judge
 number-ranged rule n l h = rw (le-ltb n (rule .first) l, le-ltb (rule .last) n h, one-in (rule .kind) (pos 0) (zero-in (rule .kind)))
 
 -- the port of a signal is in range and holds a byte, whose bit the signal is
-abbrev Shown : Arm → Load → Part → Type 0
+abbrev Shown : Arm → Load → View → Type 0
 Shown a l entire = Unit
 Shown a l (bitAt n) =
     LoadInRange (portOf l) × ((v : ℕ) × ((holds a (portOf l) ≡ held.Port (pos v)) × (holds a l ≡ held.Signal (pos (bit v n)))))
 
-shown : (a : Arm) (l : Load) → LoadInRange l → Shown a l (partOf l)
+shown : (a : Arm) (l : Load) → LoadInRange l → Shown a l (viewOf l)
 unfolding holds
 shown a (load.Timer n) i = tt
 shown a (load.Register n) i = tt
@@ -586,7 +586,7 @@ module _ (b : Box) (r : Ready b) (k : ℕ) (f : Fitted k (b .stations)) where
           (arm-own b r k f w h) (ranged b r k f w h) l (passed _ _ _ i .low) (o e))
       go (no n) i = ap (λ a. holds a l) (arm-other b r k f w h j n)
 
-  signals-told : (l : Load) (n : ℕ) → partOf l ≡ bitAt n → LoadInRange l
+  signals-told : (l : Load) (n : ℕ) → viewOf l ≡ bitAt n → LoadInRange l
       → (v : ℕ) × ((told b k (portOf l) ≡ replies (held.Port (pos v))) × (told b k l ≡ replies (held.Signal (pos (bit v n)))))
   signals-told l n e i =
       let s : Shown (armOf k b) l (bitAt n) = rw e at (shown (armOf k b) l i) in

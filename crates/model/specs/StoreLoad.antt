@@ -100,21 +100,21 @@ portOf (load.MemoryBit g) = load.MemoryPort (port ((g .0 - 256) / 8))
 portOf (load.MemoryPort p) = load.MemoryPort p
 
 -- all of an item, or a bit of it
-pub data Part : Type 0 where
-  entire : Part
-  bitAt : ℕ → Part
+pub data View : Type 0 where
+  entire : View
+  bitAt : ℕ → View
 
--- the part of its port that a signal is
-abbrev pub partOf : Load → Part
-partOf (load.Timer n) = entire
-partOf (load.Register n) = entire
-partOf (load.Row n) = entire
-partOf (load.Input g) = bitAt (g .0 % 8)
-partOf (load.InputPort p) = entire
-partOf (load.Output g) = bitAt (g .0 % 8)
-partOf (load.OutputPort p) = entire
-partOf (load.MemoryBit g) = bitAt ((g .0 - 256) % 8)
-partOf (load.MemoryPort p) = entire
+-- a signal is a bit of its port, any other item all of itself
+abbrev pub viewOf : Load → View
+viewOf (load.Timer n) = entire
+viewOf (load.Register n) = entire
+viewOf (load.Row n) = entire
+viewOf (load.Input g) = bitAt (g .0 % 8)
+viewOf (load.InputPort p) = entire
+viewOf (load.Output g) = bitAt (g .0 % 8)
+viewOf (load.OutputPort p) = entire
+viewOf (load.MemoryBit g) = bitAt ((g .0 - 256) % 8)
+viewOf (load.MemoryPort p) = entire
 
 -- m is another item than l: not l, not the port of l, and no signal of the port l
 pub record Other (l m : Load) : Type 0 where
@@ -137,7 +137,7 @@ pub record Kept (b : Box) (k : ℕ) : Type 0 where
       → (l : Load) → (j ≡ k → Other (itemOf w) l)
       → told (after b (callTo k w)) j l ≡ told b j l
   -- a port answers a byte, and each of its signals answers its bit of that byte
-  pub bits : (l : Load) (n : ℕ) → partOf l ≡ bitAt n → LoadInRange l
+  pub bits : (l : Load) (n : ℕ) → viewOf l ≡ bitAt n → LoadInRange l
       → (v : ℕ) × ((told b k (portOf l) ≡ replies (held.Port (pos v))) × (told b k l ≡ replies (held.Signal (pos (bit v n)))))
 
 -- after any setup and any list of calls that bring bytes, for every fitted slot (proved in proofs/StoreLoad.antt)
