@@ -308,7 +308,7 @@ fn main() {
           input slot 4 port 0 byte 1\0\
           input slot 0 port 32 byte 1\0\
           input slot 3 port 32 byte 1\0\
-          # One nonzero station twice, in any two slots; a station above 99, in any slot; 0 as often as is liked.\0\
+          # One nonzero station twice, in any two slots; a station above 99, in any slot; 0 in any number of slots.\0\
           setup 5 0 0 5\0\
           setup 0 0 6 6\0\
           setup 1 2 3 100\0\
