@@ -3,12 +3,13 @@
 use Prim.Native.Nat.{ℕ, zero, suc, _+_, _*_, _/_, _%_, _≤_, _<_}
 use mathlib.Core.Path.{_≡_, refl}
 use mathlib.Core.Bool.{Bool, true, false, cond, _&&_}
-use mathlib.Core.List.{List, [], _∷_}
+use mathlib.Core.List.{List, [], _∷_, _++_}
 use native.Mathlib.Omega.{arith}
 use borrow.Author.Tests.{lt-ltb, le-ltb, ltb-true, leb-true, eqb-true}
-use lib.ListN.{length, getD, drop, length-append}
-use lib.Seq.{sets, length-sets}
+use lib.ListN.{length, getD, take, drop, length-append}
+use lib.Seq.{sets, sets-eq, length-sets, take-at, length-take-le}
 use lib.Dec.{ltb}
+use Rattle.text.specs.Put.{Put}
 use Rattle.text.proofs.Laws.{here, over}
 use Rattle.text.proofs.Digits.{digit-length}
 use Rattle.lines.specs.declared.reader.Line.the-variants.{Slice, NoCall}
@@ -130,3 +131,13 @@ answer-length n s = simp (length-append, digit-length) (omega arith)
 -- a number, a space, two digits for each byte, LF
 pub answer-short : (n : ℕ) (s : List ℕ) → length (answerLine n s) ≤ 2 * length s + 4
 answer-short n s = omega (arith, answer-length n s, reply-length s)
+
+-- ---- bytes put behind others
+
+-- bytes put at an index stand behind those before it
+pub put-behind : {xs vs ys : List ℕ} {at r : ℕ} → Put xs at vs r ys → r ≤ length xs → take r ys ≡ take at xs ++ vs
+put-behind {xs} {vs} {ys} {at} {r} p h =
+    let n : r ≡ at + length vs = p .next in
+    let q : length (take at xs) ≡ at = length-take-le at xs (omega arith) in
+    let k : length (take at xs ++ vs) ≡ r = omega (arith, length-append (take at xs) vs) in
+    rw (p .area, sets-eq vs xs at (omega arith)) (take-at (take at xs ++ vs) (drop (at + length vs) xs) r k)

@@ -1,16 +1,19 @@
-// A line taken byte by byte, as it comes in blocks.
+// A line taken in parts, as it comes in blocks.
+use text::put::put_bytes;
 ghost use mathlib.Core.Path.{_≡_};
+ghost use mathlib.Core.List.{_++_};
 ghost use Prim.Native.Nat.{_≤_};
-ghost use Rattle.lines.specs.Collect.{takenCount, takenHeld};
+ghost use lib.ListN.{length, take};
 
-// Adds b to the n bytes held. No more than 513 are kept: a line over 512 digits is no call, whatever follows.
-pub fn take_byte(held: &mut [u8; 513], n: usize, b: u8) -> usize
-    ensures { λ r. ⌜ (r ≡ takenCount n) × (r ≤ 513) ⌝ }
-    ensures { λ _. ⌜ now (held .exit) ≡ takenHeld (now (held .entry)) n b ⌝ }
+// Adds the bytes of s to the n bytes held. No more than 513 are kept: a line over 512 digits is no call,
+// whatever follows.
+pub fn take_bytes(held: &mut [u8], n: usize, s: &[u8]) -> usize
+    requires { ⌜ (length (now held) ≡ 513) × (n ≤ 513) ⌝ }
+    ensures { λ r. ⌜ (take r (now (held .exit)) ≡ take 513 (take n (now (held .entry)) ++ now (s .entry))) × (r ≤ 513) ⌝ }
 {
-    if n < 513 {
-        held[n] = b;
-        return n + 1;
+    let room = 513 - n;
+    if room < s.len() {
+        return put_bytes(held, n, &s[..room]);
     }
-    513
+    put_bytes(held, n, s)
 }

@@ -1,50 +1,86 @@
 -- The invariant: what was read, what is held and what waits are within their bounds. The measure: the blocks left.
-use Prim.Native.Nat.{_≤_}
+use Prim.Native.Nat.{_+_, _≤_}
+use mathlib.Core.Path.{_≡_, refl, _∙_}
 use native.Mathlib.Omega.{arith}
 use borrow.Author.Tests.{ltb-true}
 use borrow.Author.Needs.{needs}
+use lib.ListN.{length}
+use Rattle.session.specs.Cell.{Within}
 use Rattle.cell.proofs.answer_blocks.Statement.{statement}
 use Rattle.cell.proofs.answer_blocks.Tie as tie
 
 abbrev Inv-loop : tie.InvT-loop
-Inv-loop timers₀ registers₀ x₀ y₀ inputs₀ outputs₀ memory₀ stations held₀ out₀ input₀ state₀ blocks₀ n₀ timers registers x y inputs outputs memory held out input state blocks n =
-    (n ≤ 65536) × ((state .held ≤ 513) × (state .waiting ≤ 65536))
+Inv-loop timers₀ registers₀ x₀ y₀ inputs₀ outputs₀ memory₀ stations input₀ held₀ out₀ state₀ blocks₀ n₀ timers registers x y inputs outputs memory input held out state blocks n =
+    (length input ≡ length input₀) × ((n ≤ length input) × (Within held out state × (state .waiting + 132 ≤ 65536)))
 
 abbrev μ-loop : tie.MeasureT-loop
-μ-loop timers₀ registers₀ x₀ y₀ inputs₀ outputs₀ memory₀ stations held₀ out₀ input₀ state₀ blocks₀ n₀ timers registers x y inputs outputs memory held out input state blocks n =
+μ-loop timers₀ registers₀ x₀ y₀ inputs₀ outputs₀ memory₀ stations input₀ held₀ out₀ state₀ blocks₀ n₀ timers registers x y inputs outputs memory input held out state blocks n =
     blocks
-
-large-buffer-requires : tie.Need-large-buffer-requires Inv-loop μ-loop
-large-buffer-requires c κs = search needs
 
 read-block-requires : tie.Need-read-block-requires Inv-loop μ-loop
 read-block-requires c κs = search needs
 
 loop-holds : tie.Need-loop-holds Inv-loop μ-loop
-loop-holds c = search needs
+loop-holds c =
+    let s = c .before .before .before .before .before .before .before in (
+      refl,
+      (
+        c .before .before .read-block .ensures,
+        (
+          record {
+            held-size = s .pre .0;
+            out-size = s .pre .1;
+            held-fits = omega arith;
+            waiting-fits = omega arith;
+          },
+          omega arith,
+        ),
+      ),
+    )
+
+front-requires : tie.Need-front-requires Inv-loop μ-loop
+front-requires c κs = c .before .before .before .before .before .before .before .before .before .before .loop .inv .1 .0
 
 answer-block-requires : tie.Need-answer-block-requires Inv-loop μ-loop
-answer-block-requires c κs = search needs
+answer-block-requires c κs = c .before .before .before .before .before .before .before .before .before .before .before .before .before .loop .inv .1 .1
 
 read-block-requires-2 : tie.Need-read-block-requires-2 Inv-loop μ-loop
 read-block-requires-2 c κs = search needs
 
 sub-blocks : tie.Need-sub-blocks Inv-loop μ-loop
-sub-blocks c = search needs
+sub-blocks c = omega (arith, ltb-true 0 (c .before .before .before .before .before .before .before .before .before .before .before .before .before .before .before .before .before .before .before .before .before .before .loop .blocks) (c .before .before .before .before .before .before .before .before .before .before .before .before .before .before .before .before .before .before .before .before .if1 .taken))
 
 loop-less : tie.Need-loop-less Inv-loop μ-loop
-loop-less c =
-    let t = c .before .before .before .before .before .before .before .before .before .before .before .before .before in
-    omega (arith, ltb-true 0 (t .before .before .loop .blocks) (t .if1 .taken))
+loop-less c = omega (arith, ltb-true 0 (c .before .before .before .before .before .before .before .before .before .before .before .before .before .before .before .before .before .before .before .before .before .before .loop .blocks) (c .before .before .before .before .before .before .before .before .before .before .before .before .before .before .before .before .before .before .before .before .if1 .taken))
 
 loop-again : tie.Need-loop-again Inv-loop μ-loop
-loop-again c = search needs
+loop-again c =
+    let r = c .before .before .read-block2 in
+    (r .kept .0 ∙ c .before .before .before .before .before .before .before .before .before .before .before .before .before .before .before .before .before .before .before .before .before .before .loop .inv .0, (r .ensures, c .before .before .before .before .before .before .before .before .answer-block .ensures .1))
+
+same-length : tie.Need-same-length Inv-loop μ-loop
+same-length c = c .before .before .loop .inv .0 ∙ c .before .before .before .before .before .read-block .kept .0
+
+same-length-2 : tie.Need-same-length-2 Inv-loop μ-loop
+same-length-2 c = omega (arith, c .before .before .loop .inv .1 .1 .0 .held-size, c .before .before .before .before .before .before .before .before .before .before .pre .0)
+
+same-length-3 : tie.Need-same-length-3 Inv-loop μ-loop
+same-length-3 c = omega (arith, c .before .before .loop .inv .1 .1 .0 .out-size, c .before .before .before .before .before .before .before .before .before .before .pre .1)
 
 returns : tie.Need-returns Inv-loop μ-loop
-returns c = search needs
+returns c = c .before .before .loop .inv .1 .1
+
+same-length-4 : tie.Need-same-length-4 Inv-loop μ-loop
+same-length-4 c = c .before .loop .inv .0 ∙ c .before .before .before .before .read-block .kept .0
+
+same-length-5 : tie.Need-same-length-5 Inv-loop μ-loop
+same-length-5 c = omega (arith, c .before .loop .inv .1 .1 .0 .held-size, c .before .before .before .before .before .before .before .before .before .pre .0)
+
+same-length-6 : tie.Need-same-length-6 Inv-loop μ-loop
+same-length-6 c = omega (arith, c .before .loop .inv .1 .1 .0 .out-size, c .before .before .before .before .before .before .before .before .before .pre .1)
 
 returns-2 : tie.Need-returns-2 Inv-loop μ-loop
-returns-2 c = search needs
+returns-2 c = c .before .loop .inv .1 .1
 
 pub answer-blocks-spec : {M : Type 1} → statement M
 answer-blocks-spec =
@@ -52,13 +88,19 @@ answer-blocks-spec =
     (tie.spec
     Inv-loop
     μ-loop
-    large-buffer-requires
     read-block-requires
     loop-holds
+    front-requires
     answer-block-requires
     read-block-requires-2
     sub-blocks
     loop-less
     loop-again
+    same-length
+    same-length-2
+    same-length-3
     returns
+    same-length-4
+    same-length-5
+    same-length-6
     returns-2)

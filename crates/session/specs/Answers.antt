@@ -3,7 +3,6 @@ use Prim.Native.Nat.{ℕ, _+_, _≤_}
 use mathlib.Core.Path.{_≡_}
 use mathlib.Core.Bool.{cond}
 use mathlib.Core.List.{List}
-use lib.Dec.{leb}
 use Rattle.text.specs.Put.{Put}
 use Rattle.tables.specs.Tables.{Tables}
 use Rattle.model.specs.Call.{Call, serve, Answer}
@@ -11,8 +10,8 @@ use Rattle.model.specs.Box.{Box, after, answer}
 use Rattle.lines.specs.Lines.{isCall, sliceOf, answerLine, noCallLine}
 
 -- a slice is served with a reply area of 64 bytes
-abbrev pub callOf : List ℕ → Call
-callOf slice = serve slice 64
+abbrev pub lineCall : List ℕ → Call
+lineCall slice = serve slice 64
 
 -- an answer as its line
 abbrev pub asLine : Answer → List ℕ
@@ -20,30 +19,26 @@ asLine a = answerLine (a .number) (a .reply)
 
 -- the line that answers a line
 unfoldable pub lineAnswer : Box → List ℕ → List ℕ
-lineAnswer b line = cond (isCall line) (asLine (answer b (callOf (sliceOf line)))) noCallLine
+lineAnswer b line = cond (isCall line) (asLine (answer b (lineCall (sliceOf line)))) noCallLine
 
 -- the box that a line leaves: as it was where the line is no call
 unfoldable pub boxAfter : Box → List ℕ → Box
-boxAfter b line = cond (isCall line) (after b (callOf (sliceOf line))) b
-
--- where an answer is put: at the front where fewer than 132 bytes are free
-unfoldable pub roomAt : ℕ → ℕ
-roomAt at = cond (leb at 65404) at 0
+boxAfter b line = cond (isCall line) (after b (lineCall (sliceOf line))) b
 
 -- one call answered: xs is the output before and ys after, r the index after the last byte, t the tables after
 pub record CallAnswered (b : Box) (slice xs : List ℕ) (at r : ℕ) (ys : List ℕ) (t : Tables) : Type 0 where
   -- the line of the model's answer was put
-  pub answer-is : Put xs at (asLine (answer b (callOf slice))) r ys
+  pub answer-is : Put xs at (asLine (answer b (lineCall slice))) r ys
   -- the tables are those that the call leaves
-  pub tables-are : t ≡ after b (callOf slice) .tables
+  pub tables-are : t ≡ after b (lineCall slice) .tables
   -- two digits, a space, a reply of 64 bytes, LF
   pub short : r ≤ at + 132
 
--- one line answered
+-- one line answered, likewise
 pub record LineAnswered (b : Box) (line xs : List ℕ) (at r : ℕ) (ys : List ℕ) (t : Tables) : Type 0 where
-  -- the line of the answer was put where there is room
-  pub answer-is : Put xs (roomAt at) (lineAnswer b line) r ys
+  -- the line of the answer was put
+  pub answer-is : Put xs at (lineAnswer b line) r ys
   -- the tables are those that the line leaves
   pub tables-are : t ≡ boxAfter b line .tables
-  -- the index after the last byte is within the output
-  pub within : r ≤ 65536
+  -- the line of an answer has at most 132 bytes
+  pub short : r ≤ at + 132

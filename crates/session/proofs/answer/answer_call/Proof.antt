@@ -14,20 +14,20 @@ use Rattle.gateway.specs.Entries.{Served}
 use Rattle.gateway.proofs.Replies.{served-fits}
 use Rattle.lines.specs.Lines.{answerLine}
 use Rattle.lines.proofs.Laws.{answer-short}
-use Rattle.cell.specs.Cell.{callOf, CallAnswered}
-use Rattle.cell.proofs.Laws.{front-is}
-use Rattle.cell.proofs.answer_call.Statement.{statement}
-use Rattle.cell.proofs.answer_call.Tie as tie
+use Rattle.session.specs.Answers.{lineCall, CallAnswered}
+use Rattle.session.proofs.Laws.{front-is}
+use Rattle.session.proofs.answer.answer_call.Statement.{statement}
+use Rattle.session.proofs.answer.answer_call.Tie as tie
 
 module _ {b : Box} {slice xs ys : List ℕ} {sent : Sent} {t : Tables} (room : length xs ≡ 64) (s : Served b slice xs sent t ys) where
   within : sent .length ≤ length ys
   within = rw (s .answer-is .area, length-sets) (served-fits s)
 
-  number-is : sent .number ≡ answer b (callOf slice) .number
+  number-is : sent .number ≡ answer b (lineCall slice) .number
   number-is = rw (← room) (s .answer-is .number)
 
   -- the reply is the first bytes of its area
-  reply-is : take (sent .length) ys ≡ answer b (callOf slice) .reply
+  reply-is : take (sent .length) ys ≡ answer b (lineCall slice) .reply
   reply-is = rw (s .answer-is .area, s .answer-is .length-is, ← room) (front-is xs _ (s .answer-is .fits))
 
   -- a line of any number has room where 132 bytes have

@@ -1,5 +1,5 @@
 -- `r` is where the line was read, and `m` where the match found what it is.
-use Prim.Native.Nat.{ℕ, _+_, _≤_}
+use Prim.Native.Nat.{ℕ, _≤_}
 use mathlib.Core.Path.{_≡_, refl, sym, _∙_, subst}
 use mathlib.Core.Bool.{true, false}
 use mathlib.Core.List.{List}
@@ -14,10 +14,10 @@ use Rattle.lines.specs.declared.reader.Line.{Line}
 use Rattle.lines.specs.declared.reader.Line.the-variants.{Slice}
 use Rattle.lines.specs.Lines.{isCall, sliceOf, lineOf, heldAfter, Short, noCallLine}
 use Rattle.lines.proofs.Laws.{held-length, read-slice, read-no-call}
-use Rattle.cell.specs.Cell.{lineAnswer, boxAfter, roomAt, CallAnswered, LineAnswered}
-use Rattle.cell.proofs.Laws.{front-is}
-use Rattle.cell.proofs.answer_line.Statement.{statement}
-use Rattle.cell.proofs.answer_line.Tie as tie
+use Rattle.session.specs.Answers.{lineAnswer, boxAfter, CallAnswered, LineAnswered}
+use Rattle.session.proofs.Laws.{front-is}
+use Rattle.session.proofs.answer.answer_line.Statement.{statement}
+use Rattle.session.proofs.answer.answer_line.Tie as tie
 
 -- ---- a line that is a slice of n bytes, which stand at the front of sl
 
@@ -37,24 +37,21 @@ module _ (line xs : List ℕ) {sl : List ℕ} {what : Line} {n : ℕ} (room : le
       let k : length (sliceOf line) ≤ length xs = omega (arith, short, call-is .1) in
       rw (read .1, call-is .0, call-is .1) (front-is xs (sliceOf line) k)
 
-  call-answered : {b : Box} {zs us : List ℕ} {at from r : ℕ} {t : Tables} → (from ≡ roomAt at) × (from + 132 ≤ 65536) → CallAnswered b (take n sl) zs from r us t → LineAnswered b line zs at r us t
+  call-answered : {b : Box} {zs us : List ℕ} {at r : ℕ} {t : Tables} → CallAnswered b (take n sl) zs at r us t → LineAnswered b line zs at r us t
   unfolding lineAnswer boxAfter
-  call-answered {b} {zs} {us} {at} {from} {r} {t} f a =
+  call-answered a =
       record {
-        answer-is = rw (call-is .0, ← f .0, ← slice-is) (a .answer-is);
+        answer-is = rw (call-is .0, ← slice-is) (a .answer-is);
         tables-are = rw (call-is .0, ← slice-is) (a .tables-are);
-        within = omega (arith, a .short);
+        short = a .short;
       }
 
 -- ---- a line that is no call
 
-none-answered : {b : Box} {line zs us : List ℕ} {at from r : ℕ} → isCall line ≡ false → (from ≡ roomAt at) × (from + 132 ≤ 65536) → Put zs from noCallLine r us → LineAnswered b line zs at r us (b .tables)
+none-answered : {b : Box} {line zs us : List ℕ} {at r : ℕ} → isCall line ≡ false → Put zs at noCallLine r us → LineAnswered b line zs at r us (b .tables)
 unfolding lineAnswer boxAfter
-none-answered q f p =
-    record { answer-is = rw (q, ← f .0) p; tables-are = rw q; within = omega (arith, p .next) }
-
-make-room-requires : tie.Need-make-room-requires
-make-room-requires c κs = search needs
+none-answered q p =
+    record { answer-is = rw q p; tables-are = rw q; short = omega (arith, p .next) }
 
 read-line-requires : tie.Need-read-line-requires
 read-line-requires c κs = search needs
@@ -81,23 +78,26 @@ enum-told c = search needs
 put-no-call-requires : tie.Need-put-no-call-requires
 put-no-call-requires c κs = search needs
 
+same-length : tie.Need-same-length
+same-length c = search needs
+
 returns : tie.Need-returns
 returns c =
-    let m = c .before .before .before .before .before .before .before .before .before .before .before in
-    let r = m .before .before in
-    call-answered _ _ refl (m .what .given .1) (r .read-line .ensures) (r .before .before .make-room .ensures) (c .answer-call .ensures)
+    let m = c .before .before .before .before .before .before .before .before .before .before .before .before .before in
+    call-answered _ _ refl (m .what .given .1) (m .before .before .read-line .ensures) (c .before .before .answer-call .ensures)
+
+same-length-2 : tie.Need-same-length-2
+same-length-2 c = search needs
 
 returns-2 : tie.Need-returns-2
 returns-2 c =
-    let m = c .before .before in
-    let r = m .before .before in
-    none-answered (read-no-call _ (sym (r .read-line .ensures .0 .0) ∙ m .enum-told .given .1)) (r .before .before .make-room .ensures) (c .put-no-call .ensures)
+    let m = c .before .before .before .before in
+    none-answered (read-no-call _ (sym (m .before .before .read-line .ensures .0 .0) ∙ m .enum-told .given .1)) (c .before .before .put-no-call .ensures)
 
 pub answer-line-spec : {M : Type 1} → statement M
 answer-line-spec =
     tie.close
     (tie.spec
-    make-room-requires
     read-line-requires
     enum-known-what
     array-share-prefix-slice
@@ -105,5 +105,7 @@ answer-line-spec =
     answer-call-requires
     enum-told
     put-no-call-requires
+    same-length
     returns
+    same-length-2
     returns-2)
