@@ -11,10 +11,10 @@ use lib.Seq.{take-add, length-take-le}
 use lib.Dec.{ltb}
 use Rattle.tables.specs.Tables.{Tables}
 use Rattle.model.specs.Box.{Box}
-use Rattle.session.specs.declared.input.Progress.{Progress}
-use Rattle.session.specs.Cell.{Cell, takenAll, cellOf, Within, Took}
-use Rattle.session.proofs.Laws.{taken-append, part-is}
-use Rattle.session.proofs.WholeInput.{taken-all-preceded}
+use Rattle.stream.specs.declared.input.Progress.{Progress}
+use Rattle.stream.specs.Cell.{Cell, takenAll, cellOf, Within, Took}
+use Rattle.stream.proofs.Laws.{taken-append, part-is}
+use Rattle.stream.proofs.WholeInput.{taken-all-preceded}
 use Rattle.cell.specs.Block.{BlockTaken}
 
 -- a part of what follows i bytes of s

@@ -2,7 +2,7 @@
 use Prim.Native.Nat.{ℕ}
 use mathlib.Core.Path.{_≡_}
 use mathlib.Core.List.{List}
-use Rattle.session.specs.Cell.{Cell, takenAll, preceded}
+use Rattle.stream.specs.Cell.{Cell, takenAll, preceded}
 
 -- c is the state before and d after
 pub record BlockTaken (c : Cell) (input : List ℕ) (d : Cell) : Type 0 where

@@ -1,19 +1,19 @@
 // Reads lines from standard input, each the hexadecimal capitals of one slice, and answers each by a line.
 // Both come and go in blocks, so that any number of lines is answered in the same memory. What is done
-// between reading and writing is the crate `session`.
+// between reading and writing is the crate `stream`.
 use gateway::setup::setup;
 use libc::STDIN_FILENO;
 use libc::STDOUT_FILENO;
-use session::input::Progress;
-use session::input::answer_last;
-use session::input::front;
-use session::input::take_block;
+use stream::input::Progress;
+use stream::input::answer_last;
+use stream::input::front;
+use stream::input::take_block;
 ghost use mathlib.Core.Path.{_≡_};
 ghost use mathlib.Core.Logic.{_⊎_};
 ghost use Prim.Native.Nat.{_+_, _≤_};
 ghost use lib.ListN.{length};
 ghost use Rattle.tables.specs.Tables.{tables};
-ghost use Rattle.session.specs.Cell.{Within, cellOf};
+ghost use Rattle.stream.specs.Cell.{Within, cellOf};
 ghost use Rattle.cell.specs.Block.{BlockTaken};
 
 // Writes the waiting bytes out where fewer than 132 are free, which the longest answer has. Returns how many

@@ -47,9 +47,11 @@ pub record RequestReading : Type 0 where
   pub station : ℕ
   pub request : Option Request
 
+-- accepted
 abbrev pub theRequest : ℕ → Request → RequestReading
 theRequest station r = record { number = 0; station = station; request = some r }
 
+-- refused
 abbrev pub noRequest : ℕ → RequestReading
 noRequest n = record { number = n; station = 0; request = none }
 
@@ -58,13 +60,16 @@ abbrev pub askedValues : Asked → RequestReading
 askedValues (asked.Accepted station r) = theRequest station r
 askedValues (asked.Refused n) = noRequest n
 
+-- 9 to 12 of the body of a station's frame
 abbrev pub fromStation : ℕ → Judged → RequestReading
 fromStation station (judged.Accepted r) = theRequest station r
 fromStation station (judged.Refused n store) = noRequest n
 
+-- 2 to 7, then those
 abbrev pub requestIn : Reading → RequestReading
 requestIn o = cond (eqb (o .number) 0) (fromStation (o .station) (readBody (o .body))) (noRequest (o .number))
 
+-- a slice read as a request
 unfoldable pub readRequest : List ℕ → RequestReading
 readRequest s = requestIn (readFrame s)
 
@@ -106,9 +111,11 @@ pub record ReplyReading : Type 0 where
   pub number : ℕ
   pub outcome : Option Outcome
 
+-- accepted
 abbrev pub theOutcome : Outcome → ReplyReading
 theOutcome o = record { number = 0; outcome = some o }
 
+-- refused
 abbrev pub noOutcome : ℕ → ReplyReading
 noOutcome n = record { number = n; outcome = none }
 
@@ -117,6 +124,7 @@ abbrev pub answeredValues : Answered → ReplyReading
 answeredValues (answered.Accepted o) = theOutcome o
 answeredValues (answered.Refused n) = noOutcome n
 
+-- a body that carries nothing is no reply to that request
 abbrev pub fromCarried : Carried → ReplyReading
 fromCarried (carried.Outcome o) = theOutcome o
 fromCarried carried.Nothing = noOutcome 15
@@ -128,5 +136,6 @@ replyIn o station r =
     (cond (eqb (o .station) station) (fromCarried (readOutcome (ruleFor r) (o .body))) (noOutcome 15))
     (noOutcome (o .number))
 
+-- 7, 11, 12 of the request, then those of the slice
 unfoldable pub readReply : List ℕ → ℕ → Request → ReplyReading
 readReply s station r = cond (eqb (judgeAsked station r) 0) (replyIn (readFrame s) station r) (noOutcome (judgeAsked station r))

@@ -7,9 +7,9 @@ use borrow.Author.Needs.{needs}
 use lib.ListN.{length, take}
 use lib.Seq.{take-all}
 use Rattle.tables.specs.Tables.{tables}
-use Rattle.session.specs.Cell.{takenAll, cellOf, Within}
+use Rattle.stream.specs.Cell.{takenAll, cellOf, Within}
 use Rattle.cell.specs.Block.{BlockTaken}
-use Rattle.session.proofs.Laws.{part-length, part-within}
+use Rattle.stream.proofs.Laws.{part-length, part-within}
 use Rattle.cell.proofs.Laws.{part-more, part-some, room-made}
 use Rattle.cell.proofs.answer_block.Statement.{statement}
 use Rattle.cell.proofs.answer_block.Tie as tie

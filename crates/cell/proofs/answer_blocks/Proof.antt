@@ -5,7 +5,7 @@ use native.Mathlib.Omega.{arith}
 use borrow.Author.Tests.{ltb-true}
 use borrow.Author.Needs.{needs}
 use lib.ListN.{length}
-use Rattle.session.specs.Cell.{Within}
+use Rattle.stream.specs.Cell.{Within}
 use Rattle.cell.proofs.answer_blocks.Statement.{statement}
 use Rattle.cell.proofs.answer_blocks.Tie as tie
 

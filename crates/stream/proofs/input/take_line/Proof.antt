@@ -4,10 +4,10 @@ use mathlib.Core.Path.{sym, ap, _∙_}
 use native.Mathlib.Omega.{arith}
 use borrow.Author.Needs.{needs}
 use lib.ListN.{length, take}
-use Rattle.session.specs.Cell.{ended}
-use Rattle.session.proofs.Laws.{found-no-feed, found-feed, line-grown, taken-next, taken-end}
-use Rattle.session.proofs.input.take_line.Statement.{statement}
-use Rattle.session.proofs.input.take_line.Tie as tie
+use Rattle.stream.specs.Cell.{ended}
+use Rattle.stream.proofs.Laws.{found-no-feed, found-feed, line-grown, taken-next, taken-end}
+use Rattle.stream.proofs.input.take_line.Statement.{statement}
+use Rattle.stream.proofs.input.take_line.Tie as tie
 
 find-requires : tie.Need-find-requires
 find-requires c κs = search needs

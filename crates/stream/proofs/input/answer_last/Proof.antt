@@ -1,8 +1,8 @@
 use mathlib.Core.Path.{sym, _∙_}
 use borrow.Author.Needs.{needs}
-use Rattle.session.proofs.Laws.{finished-empty, finished-more}
-use Rattle.session.proofs.input.answer_last.Statement.{statement}
-use Rattle.session.proofs.input.answer_last.Tie as tie
+use Rattle.stream.proofs.Laws.{finished-empty, finished-more}
+use Rattle.stream.proofs.input.answer_last.Statement.{statement}
+use Rattle.stream.proofs.input.answer_last.Tie as tie
 
 returns : tie.Need-returns
 returns c =

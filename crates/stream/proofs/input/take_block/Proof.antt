@@ -9,10 +9,10 @@ use borrow.Author.Tests.{leb-true, leb-false}
 use lib.ListN.{length, take}
 use lib.Dec.{leb}
 use Rattle.tables.specs.Tables.{tables}
-use Rattle.session.specs.Cell.{takenAll, cellOf, Within}
-use Rattle.session.proofs.Laws.{part-length, part-within, part-taken}
-use Rattle.session.proofs.input.take_block.Statement.{statement}
-use Rattle.session.proofs.input.take_block.Tie as tie
+use Rattle.stream.specs.Cell.{takenAll, cellOf, Within}
+use Rattle.stream.proofs.Laws.{part-length, part-within, part-taken}
+use Rattle.stream.proofs.input.take_block.Statement.{statement}
+use Rattle.stream.proofs.input.take_block.Tie as tie
 
 abbrev Inv-loop : tie.InvT-loop
 Inv-loop timers₀ registers₀ x₀ y₀ inputs₀ outputs₀ memory₀ stations input held₀ out₀ state₀ i₀ timers registers x y inputs outputs memory held out state i =

@@ -7,7 +7,7 @@ ghost use mathlib.Core.Logic.{_⊎_};
 ghost use Prim.Native.Nat.{_+_, _<_, _≤_};
 ghost use lib.ListN.{length, take};
 ghost use Rattle.tables.specs.Tables.{tables};
-ghost use Rattle.session.specs.Cell.{Within, cellOf, ended, finished, Took};
+ghost use Rattle.stream.specs.Cell.{Within, cellOf, ended, finished, Took};
 
 // How far the program is: the bytes held of the line that has not ended, and the bytes of output that wait
 // to be written.

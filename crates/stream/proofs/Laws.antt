@@ -19,9 +19,9 @@ use Rattle.model.specs.Box.{Box, after, perform}
 use Rattle.gateway.specs.Entries.{box}
 use Rattle.lines.specs.Lines.{isCall, sliceOf}
 use Rattle.lines.proofs.Laws.{put-behind}
-use Rattle.session.specs.declared.input.Progress.{Progress}
-use Rattle.session.specs.Answers.{lineCall, boxAfter, LineAnswered}
-use Rattle.session.specs.Cell.{Cell, ended, extended, taken, takenAll, finished, cellOf, Within, Took}
+use Rattle.stream.specs.declared.input.Progress.{Progress}
+use Rattle.stream.specs.Answers.{lineCall, boxAfter, LineAnswered}
+use Rattle.stream.specs.Cell.{Cell, ended, extended, taken, takenAll, finished, cellOf, Within, Took}
 
 -- ---- bytes in memory
 

@@ -1,7 +1,7 @@
 use borrow.Author.Needs.{needs}
-use Rattle.session.proofs.Laws.{line-ended, ended-within}
-use Rattle.session.proofs.input.end_line.Statement.{statement}
-use Rattle.session.proofs.input.end_line.Tie as tie
+use Rattle.stream.proofs.Laws.{line-ended, ended-within}
+use Rattle.stream.proofs.input.end_line.Statement.{statement}
+use Rattle.stream.proofs.input.end_line.Tie as tie
 
 front-requires : tie.Need-front-requires
 front-requires c κs = search needs

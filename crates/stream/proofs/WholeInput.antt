@@ -10,10 +10,10 @@ use borrow.Author.Tests.{eqb-true, ne-eqb}
 use Rattle.model.specs.Box.{Box}
 use Rattle.lines.specs.Lines.{isCall}
 use Rattle.lines.proofs.Back.{held-reads-same}
-use Rattle.session.specs.Answers.{lineAnswer, boxAfter}
-use Rattle.session.specs.Cell.{Cell, ended, extended, taken, takenAll, finished, preceded}
-use Rattle.session.specs.Input.{prepend, linesOf, lineAnswers, boxAfterAll, cleared, printed, lastBox, WholeInput}
-use Rattle.session.proofs.Laws.{taken-append, NoFeed, take-again}
+use Rattle.stream.specs.Answers.{lineAnswer, boxAfter}
+use Rattle.stream.specs.Cell.{Cell, ended, extended, taken, takenAll, finished, preceded}
+use Rattle.stream.specs.Input.{prepend, linesOf, lineAnswers, boxAfterAll, cleared, printed, lastBox, WholeInput}
+use Rattle.stream.proofs.Laws.{taken-append, NoFeed, take-again}
 
 -- ---- output that stands before: it changes nothing else
 
