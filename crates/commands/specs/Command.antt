@@ -1,4 +1,4 @@
--- The sixteen commands (document 01, "Commands").
+-- The sixteen commands (document 01, "Commands"; for the numbers of LND document 02, E2).
 use Prim.Native.Nat.{ℕ}
 use mathlib.Core.Bool.{Bool, true, false, cond, _&&_}
 use mathlib.Core.List.{List, [], _∷_}
@@ -62,7 +62,7 @@ stores kind first last = record { store = true; kind = kind; first = first; last
 abbrev pub ruleOf : Command → Rule
 ruleOf Lnt = loads Timer 0 15
 ruleOf Snt = stores Timer 0 15
-ruleOf Lnd = loads Register 0 15
+ruleOf Lnd = loads Register 0 63
 ruleOf Snd = stores Register 0 63
 ruleOf Lnl = loads Row 0 99
 ruleOf Snl = stores Row 0 99

@@ -1,5 +1,5 @@
 // The sixteen commands: their names, compared and written as fixed byte strings, and the table of document
-// 01 that gives each command's fields and the range of its number.
+// 01 that gives each command's fields and the range of its number (that of LND as document 02 has it, E2).
 use text::put::put_bytes;
 ghost use mathlib.Core.Path.{_≡_};
 ghost use Prim.Native.Nat.{_≤_, _+_};
@@ -238,7 +238,7 @@ pub fn rule_of(command: Command) -> Rule
     match command {
         Command::Lnt => load(Kind::Timer, 0, 15),
         Command::Snt => store(Kind::Timer, 0, 15),
-        Command::Lnd => load(Kind::Register, 0, 15),
+        Command::Lnd => load(Kind::Register, 0, 63),
         Command::Snd => store(Kind::Register, 0, 63),
         Command::Lnl => load(Kind::Row, 0, 99),
         Command::Snl => store(Kind::Row, 0, 99),

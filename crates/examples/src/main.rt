@@ -1,5 +1,5 @@
-// Runs the examples of document 01 against the code, by a script of a line for each, and prints a line for
-// each answer. What must be printed stands in the file stdout, which was written from the document and not from
+// Runs the examples of documents 01 and 02 against the code, by a script of a line for each, and prints a line for
+// each answer. What must be printed stands in the file stdout, which was written from the documents and not from
 // a run.
 mod frames; // frames.rt: slices read as frames, and a frame written
 mod numbers; // numbers.rt: numbers read and written
@@ -91,7 +91,7 @@ fn main() {
         b"# Requests of each kind. One that is accepted is written too.\0\
           Q\x021 LNT 5\x03\x51\0\
           Q\x021 SNT 15 9.99\x03\x48\0\
-          Q\x022 LND 15\x03\x73\0\
+          Q\x022 LND 63\x03\x72\0\
           Q\x022 SND 63 0042\x03\x4b\0\
           Q\x023 LNL 99\x03\x7e\0\
           Q\x023 SNL 99 -9999.99 9999.99\x03\x4c\0\
@@ -131,13 +131,14 @@ fn main() {
           Q\x021 LNBB 384\x03\x0f\0\
           Q\x021 LNL 100\x03\x4d\0\
           Q\x021 SNL 100 0 0\x03\x52\0\
-          Q\x021 LND 16\x03\x73\0\
+          Q\x021 LND 64\x03\x76\0\
           Q\x021 SND 64 0\x03\x79\0\
           Q\x021 SNT 0 10.00\x03\x44\0\
           Q\x021 SNT 0 -0.01\x03\x59\0\
           # Replies: checks 7, 11 and 12 of the request come before check 2 of the slice.\0\
           PB\0\
           PD\0\
+          PW\0\
           PG\0\
           PI\0\
           # Check 5 of the slice, and check 15: another station, data out of range or of a wrong form.\0\
@@ -158,6 +159,7 @@ fn main() {
           TD\0\
           TE\0\
           TF\0\
+          TW\0\
           TG\0\
           TH\0\
           # Those that replies of each kind answer.\0\
@@ -231,12 +233,21 @@ fn main() {
           S\x021 LNT 5\x03Q\0\
           S\x021 SNT 5 1.25\x03v\0\
           S\x021 LNT 5\x03Q\0\
-          # Register 63 is stored; LND reads 0 to 15 only.\0\
+          # Registers 16, 40 and 63 answer what was stored. 63 is the last.\0\
           S\x022 SND 63 0042\x03K\0\
+          S\x022 LND 63\x03r\0\
           S\x022 LND 15\x03s\0\
           S\x022 SND 15 42\x03J\0\
           S\x022 LND 15\x03s\0\
           S\x022 LND 16\x03p\0\
+          S\x022 SND 16 9999\x03O\0\
+          S\x022 LND 16\x03p\0\
+          S\x022 SND 40 1234\x03H\0\
+          S\x022 LND 40\x03s\0\
+          S\x022 LND 15\x03s\0\
+          S\x022 LND 63\x03r\0\
+          S\x022 LND 64\x03u\0\
+          S\x022 SND 64 1\x03{\0\
           # Signals and the ports that hold them.\0\
           S\x021 SNOB 255 1\x03\x01\0\
           S\x021 LNOD 31\x039\0\
@@ -315,11 +326,11 @@ fn main() {
           setup 0 100 0 0\0\
           setup 0 0 0 0\0\
           setup 99 98 97 1\0\
-          # The ranges of numbers and data, as document 01 prints them.\0\
+          # The ranges of numbers and data, as document 01 prints them, LND as document 02 (E2).\0\
           setup 1 0 0 0\0\
           R0 LNT -1 0 15 16\0\
           R1 SNT -1 0 15 16 -0.01 0.00 9.99 10.00\0\
-          R0 LND -1 0 15 16\0\
+          R0 LND -1 0 63 64\0\
           R1 SND -1 0 63 64 -1 0 9999 10000\0\
           R0 LNL -1 0 99 100\0\
           R2 SNL -1 0 99 100 -10000.00 -9999.99 9999.99 10000.00\0\

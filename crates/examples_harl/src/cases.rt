@@ -31,11 +31,12 @@ pub fn case_of(letter: u8) -> Case {
         b'D' => load(1, Load::Timer(16)),
         b'E' => load(1, Load::MemoryBit(Signal(255))),
         b'F' => store(1, Store::OutputPort(Port(32), 256)),
+        b'W' => load(1, Load::Register(64)),
         b'G' => store(1, Store::Timer(0, 1000)),
         b'H' => store(1, Store::Timer(0, -1)),
         // Replies of each kind answer these.
         b'I' => load(1, Load::Timer(5)),
-        b'J' => load(2, Load::Register(15)),
+        b'J' => load(2, Load::Register(63)),
         b'K' => load(3, Load::Row(99)),
         b'L' => load(4, Load::Input(Signal(255))),
         b'M' => load(5, Load::OutputPort(Port(31))),
