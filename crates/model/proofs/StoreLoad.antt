@@ -206,10 +206,6 @@ itemAt p (bitAt n) = getD bitItems (p .bank) load.Timer (p .index * 8 + n)
 abbrev kindOf : Load → Kind
 kindOf l = ruleFor (request.Load l) .kind
 
--- its number is not below the first of its kind
-abbrev Numbered : Load → Type 0
-Numbered l = ruleFor (request.Load l) .first ≤ partsOf (request.Load l) .number
-
 -- what is known of an arm's tables: their lengths, and that ports are bytes
 record Sized (a : Arm) : Type 0 where
   columns : length (a .x) ≡ length (a .y)
@@ -231,7 +227,7 @@ record Located (a : Arm) (l : Load) : Type 0 where
 nat-at : (l : List ℕ) (i : ℕ) → getD (map nat l) i (one (pos 0)) ≡ nat (getD l i 0)
 nat-at l i = List·getD-map nat l i 0
 
-located : (a : Arm) → Sized a → (l : Load) → Numbered l → Located a l
+located : (a : Arm) → Sized a → (l : Load) → LoadInRange l → Located a l
 unfolding holds
 located a h (load.Timer n) z = record { answers = rw nat-at; item = refl; port = refl; bits = tt }
 located a h (load.Register n) z = record { answers = rw nat-at; item = refl; port = refl; bits = tt }
@@ -245,7 +241,7 @@ located a h (load.Output g) z =
     record { answers = rw nat-at; item = rw e; port = refl; bits = rw nat-at (omega arith, h .outputs (g .0 / 8)) }
 located a h (load.OutputPort p) z = record { answers = rw nat-at; item = refl; port = refl; bits = tt }
 located a h (load.MemoryBit g) z =
-    let e : (g .0 - 256) / 8 * 8 + (g .0 - 256) % 8 + 256 ≡ g .0 = omega arith in
+    let e : (g .0 - 256) / 8 * 8 + (g .0 - 256) % 8 + 256 ≡ g .0 = omega (arith, passed _ _ _ z .low) in
     record { answers = rw nat-at; item = rw e; port = refl; bits = rw nat-at (omega arith, h .memory ((g .0 - 256) / 8)) }
 located a h (load.MemoryPort p) z = record { answers = rw nat-at; item = refl; port = refl; bits = tt }
 
@@ -279,7 +275,8 @@ record Written (a : Arm) (w : Write) : Type 0 where
   given : dataOf (kindOf (itemOf w)) (brought w) ≡ givenBy w
   -- that cell is there
   within : Within (banks a) (placed (itemOf w))
-  numbered : Numbered (itemOf w)
+  -- its LN is in range
+  readable : LoadInRange (itemOf w)
   binary : Binary (viewOf (itemOf w)) (brought w)
 
 -- a number below the length of its bank
@@ -296,6 +293,11 @@ natural c v low h = ap one (sym (in-nat c v low (all-x c (one v) h)))
 binary-in : (v : ℤ) → allInRange kind.Signal (one v) ≡ true → (natAbs v < 2) × (one v ≡ nat (natAbs v))
 binary-in v h = (omega (arith, in-size kind.Signal v (all-x kind.Signal (one v) h)), sym (natural kind.Signal v refl h))
 
+-- an LN whose number is in its range
+number-ranged : (rule : Rule) (n : ℕ) → rule .first ≤ n → n ≤ rule .last → judge rule n (one (pos 0)) ≡ 0
+unfolding judge
+number-ranged rule n l h = rw (le-ltb n (rule .first) l, le-ltb (rule .last) n h, one-in (rule .kind) (pos 0) (zero-in (rule .kind)))
+
 written : (a : Arm) → Sized a → (w : Write) → Ranged w → Written a w
 unfolding replaced
 written a h (sn slice room (store.Timer n v)) e =
@@ -304,7 +306,7 @@ written a h (sn slice room (store.Timer n v)) e =
       cells = rw (map-set, natural kind.Timer v refl (p .values));
       given = refl;
       within = in-bank a h 3 n (omega (arith, p .high));
-      numbered = p .low;
+      readable = number-ranged _ n (p .low) (p .high);
       binary = tt;
     }
 written a h (sn slice room (store.Register n v)) e =
@@ -313,19 +315,19 @@ written a h (sn slice room (store.Register n v)) e =
       cells = rw (map-set, natural kind.Register v refl (p .values));
       given = refl;
       within = in-bank a h 4 n (omega (arith, p .high));
-      numbered = p .low;
+      readable = number-ranged _ n (p .low) (p .high);
       binary = tt;
     }
 written a h (sn slice room (store.Row n r)) e =
     let p = passed _ _ _ e in
-    record { cells = rw paired-set; given = refl; within = in-bank a h 5 n (omega (arith, p .high)); numbered = p .low; binary = tt }
+    record { cells = rw paired-set; given = refl; within = in-bank a h 5 n (omega (arith, p .high)); readable = number-ranged _ n (p .low) (p .high); binary = tt }
 written a h (sn slice room (store.Output g v)) e =
     let p = passed _ _ _ e in
     record {
       cells = rw (map-set, nat-at);
       given = refl;
       within = in-bank a h 1 (g .0 / 8) (omega (arith, p .high));
-      numbered = p .low;
+      readable = number-ranged _ (g .0) (p .low) (p .high);
       binary = binary-in v (p .values);
     }
 written a h (sn slice room (store.OutputPort n v)) e =
@@ -334,7 +336,7 @@ written a h (sn slice room (store.OutputPort n v)) e =
       cells = rw (map-set, natural kind.Port v refl (p .values));
       given = refl;
       within = in-bank a h 1 (n .0) (omega (arith, p .high));
-      numbered = p .low;
+      readable = number-ranged _ (n .0) (p .low) (p .high);
       binary = tt;
     }
 written a h (sn slice room (store.MemoryBit g v)) e =
@@ -343,7 +345,7 @@ written a h (sn slice room (store.MemoryBit g v)) e =
       cells = rw (map-set, nat-at);
       given = refl;
       within = in-bank a h 2 ((g .0 - 256) / 8) (omega (arith, p .high, p .low));
-      numbered = p .low;
+      readable = number-ranged _ (g .0) (p .low) (p .high);
       binary = binary-in v (p .values);
     }
 written a h (sn slice room (store.MemoryPort n v)) e =
@@ -352,11 +354,11 @@ written a h (sn slice room (store.MemoryPort n v)) e =
       cells = rw (map-set, natural kind.Port v refl (p .values));
       given = refl;
       within = in-bank a h 2 (n .0) (omega (arith, p .high));
-      numbered = p .low;
+      readable = number-ranged _ (n .0) (p .low) (p .high);
       binary = tt;
     }
 written a h (wired n v) e =
-    record { cells = rw map-set; given = refl; within = in-bank a h 0 n (omega arith); numbered = omega arith; binary = tt }
+    record { cells = rw map-set; given = refl; within = in-bank a h 0 n (omega arith); readable = number-ranged _ n (omega arith) e; binary = tt }
 
 -- ---- what is stored and what is kept, on one arm
 
@@ -371,7 +373,7 @@ same-place p q = go (ℕ-discrete (p .bank) (q .bank)) (ℕ-discrete (p .index) 
 module _ (a b : Arm) (w : Write) (ha : Sized a) (hb : Sized b) (e : b ≡ armWith a w) (r : Ranged w) where
   -- the part that is written
   mine : Located a (itemOf w)
-  mine = located a ha (itemOf w) (written a ha w r .numbered)
+  mine = located a ha (itemOf w) (written a ha w r .readable)
 
   cells-after : banks b ≡ cellsWith a w
   cells-after = ap banks e ∙ written a ha w r .cells
@@ -384,7 +386,7 @@ module _ (a b : Arm) (w : Write) (ha : Sized a) (hb : Sized b) (e : b ≡ armWit
   held-same : holds b (itemOf w) ≡ givenBy w
   held-same =
       let d = written a ha w r in
-      located b hb (itemOf w) (d .numbered) .answers
+      located b hb (itemOf w) (d .readable) .answers
       ∙ ap (dataOf (kindOf (itemOf w))) (rw cell-after (seen-same (viewOf (itemOf w)) _ (brought w) (mine .bits) (d .binary)))
       ∙ d .given
 
@@ -404,7 +406,7 @@ module _ (a b : Arm) (w : Write) (ha : Sized a) (hb : Sized b) (e : b ≡ armWit
       apart z = o .not-item (sym (mine .item) ∙ ap₂ itemAt s (ep ∙ ap bitAt (sym z) ∙ sym eq) ∙ i .item)
 
   -- another item
-  held-other : (l : Load) → Numbered l → Other (itemOf w) l → holds b l ≡ holds a l
+  held-other : (l : Load) → LoadInRange l → Other (itemOf w) l → holds b l ≡ holds a l
   held-other l z o = located b hb l z .answers ∙ ap (dataOf (kindOf l)) (go (same-place (placed (itemOf w)) (placed l))) ∙ sym (i .answers)
     where
       i : Located a l
@@ -417,11 +419,6 @@ module _ (a b : Arm) (w : Write) (ha : Sized a) (hb : Sized b) (e : b ≡ armWit
           ∙ part-kept l i o s (viewOf (itemOf w)) (viewOf l) refl refl _ (rw s at (mine .bits)) (written a ha w r .binary) (i .bits)
 
 -- ---- a signal and its port
-
--- an LN whose number is in its range
-number-ranged : (rule : Rule) (n : ℕ) → rule .first ≤ n → n ≤ rule .last → judge rule n (one (pos 0)) ≡ 0
-unfolding judge
-number-ranged rule n l h = rw (le-ltb n (rule .first) l, le-ltb (rule .last) n h, one-in (rule .kind) (pos 0) (zero-in (rule .kind)))
 
 -- the port of a signal is in range and holds a byte, whose bit the signal is
 abbrev Shown : Arm → Load → View → Type 0
@@ -564,13 +561,15 @@ module _ (b : Box) (r : Ready b) (k : ℕ) (f : Fitted k (b .stations)) where
   unfolding writeRequest
   written-accepted q e = (omega arith, requests-read-back 64 (stationAt b k) (request.Store q) (writable b r k f (request.Store q) e))
 
-  stored-told : (w : Write) → Accepts (stationAt b k) w → LoadInRange (itemOf w)
+  stored-told : (w : Write) → Accepts (stationAt b k) w
       → told (after b (callTo k w)) k (itemOf w) ≡ replies (givenBy w)
-  stored-told w h i =
+  stored-told w h =
       let c : Box = after b (callTo k w) in
       let q : Ready c = ready-after b r k f w h in
-      told-held c q k (rw (after-stations b (callTo k w)) f) (itemOf w) i
-      ∙ ap replies (held-same (armOf k b) (armOf k c) w (sized b r k (f .0)) (sized c q k (f .0)) (arm-own b r k f w h) (ranged b r k f w h))
+      let z = sized b r k (f .0) in
+      let i = ranged b r k f w h in
+      told-held c q k (rw (after-stations b (callTo k w)) f) (itemOf w) (written (armOf k b) z w i .readable)
+      ∙ ap replies (held-same (armOf k b) (armOf k c) w z (sized c q k (f .0)) (arm-own b r k f w h) i)
 
   others-told : (w : Write) → Accepts (stationAt b k) w → (j : ℕ) → Fitted j (b .stations)
       → (l : Load) → (j ≡ k → Other (itemOf w) l) → told (after b (callTo k w)) j l ≡ told b j l
@@ -583,7 +582,7 @@ module _ (b : Box) (r : Ready b) (k : ℕ) (f : Fitted k (b .stations)) where
       go : Dec (j ≡ k) → LoadInRange l → holds (armOf j (after b (callTo k w))) l ≡ holds (armOf j b) l
       go (yes e) i =
           rw e (held-other (armOf k b) (armOf k (after b (callTo k w))) w (sized b r k (f .0)) (sized _ q k (f .0))
-          (arm-own b r k f w h) (ranged b r k f w h) l (passed _ _ _ i .low) (o e))
+          (arm-own b r k f w h) (ranged b r k f w h) l i (o e))
       go (no n) i = ap (λ a. holds a l) (arm-other b r k f w h j n)
 
   signals-told : (l : Load) (n : ℕ) → viewOf l ≡ bitAt n → LoadInRange l

@@ -129,8 +129,8 @@ pub record Kept (b : Box) (k : ℕ) : Type 0 where
   -- every SN in range, written for this station, is accepted
   pub writable : (q : Store) → StoreInRange q
       → Accepts (stationAt b k) (sn (writeRequest 64 (stationAt b k) (request.Store q) .bytes) 64 q)
-  -- the LN of an item answers what was just stored there, where its number is in range
-  pub reads-back : (w : Write) → Accepts (stationAt b k) w → LoadInRange (itemOf w)
+  -- the LN of an item answers what was just stored there
+  pub reads-back : (w : Write) → Accepts (stationAt b k) w
       → told (after b (callTo k w)) k (itemOf w) ≡ replies (givenBy w)
   -- every other item of this arm, and every item of every other arm, answers as before
   pub others : (w : Write) → Accepts (stationAt b k) w → (j : ℕ) → Fitted j (b .stations)
