@@ -54,25 +54,48 @@ commandOf s = among commands s
 abbrev pub loads : Kind → ℕ → ℕ → Rule
 loads kind first last = record { store = false; kind = kind; first = first; last = last }
 
--- an SN: data of this kind are given
-abbrev pub stores : Kind → ℕ → ℕ → Rule
-stores kind first last = record { store = true; kind = kind; first = first; last = last }
+-- its SN: data of that kind are given, under the same numbers
+abbrev pub stores : Rule → Rule
+stores ln = record { store = true; kind = ln .kind; first = ln .first; last = ln .last }
 
--- the command table: what a command's data are, and the range of its number
+-- the rows of the command table, as their LNs have them: what the data are, and the range of the number
+abbrev pub timers : Rule
+timers = loads Timer 0 15
+
+abbrev pub registers : Rule
+registers = loads Register 0 63
+
+abbrev pub rows : Rule
+rows = loads Row 0 99
+
+-- inputs and outputs
+abbrev pub signals : Rule
+signals = loads Signal 0 255
+
+abbrev pub ports : Rule
+ports = loads Port 0 31
+
+abbrev pub memoryBits : Rule
+memoryBits = loads Signal 256 383
+
+abbrev pub memoryPorts : Rule
+memoryPorts = loads Port 0 15
+
+-- the command table: the row of each command
 abbrev pub ruleOf : Command → Rule
-ruleOf Lnt = loads Timer 0 15
-ruleOf Snt = stores Timer 0 15
-ruleOf Lnd = loads Register 0 63
-ruleOf Snd = stores Register 0 63
-ruleOf Lnl = loads Row 0 99
-ruleOf Snl = stores Row 0 99
-ruleOf Lnib = loads Signal 0 255
-ruleOf Lnob = loads Signal 0 255
-ruleOf Snob = stores Signal 0 255
-ruleOf Lnid = loads Port 0 31
-ruleOf Lnod = loads Port 0 31
-ruleOf Snod = stores Port 0 31
-ruleOf Lnbb = loads Signal 256 383
-ruleOf Snbb = stores Signal 256 383
-ruleOf Lnbd = loads Port 0 15
-ruleOf Snbd = stores Port 0 15
+ruleOf Lnt = timers
+ruleOf Snt = stores timers
+ruleOf Lnd = registers
+ruleOf Snd = stores registers
+ruleOf Lnl = rows
+ruleOf Snl = stores rows
+ruleOf Lnib = signals
+ruleOf Lnob = signals
+ruleOf Snob = stores signals
+ruleOf Lnid = ports
+ruleOf Lnod = ports
+ruleOf Snod = stores ports
+ruleOf Lnbb = memoryBits
+ruleOf Snbb = stores memoryBits
+ruleOf Lnbd = memoryPorts
+ruleOf Snbd = stores memoryPorts

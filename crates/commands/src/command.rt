@@ -221,7 +221,7 @@ fn load(kind: Kind, first: u16, last: u16) -> Rule
 }
 
 fn store(kind: Kind, first: u16, last: u16) -> Rule
-    ensures { λ r. ⌜ r ≡ stores kind first last ⌝ }
+    ensures { λ r. ⌜ r ≡ stores (loads kind first last) ⌝ }
 {
     Rule {
         store: true,
