@@ -46,7 +46,7 @@ module _ (rule : Rule) (n : ℕ) (row : Row) (h : judge rule n row ≡ 0) where
       rw (le-ltb n (rule .first) (p .low), le-ltb (rule .last) n (p .high), e, zero-in (rule .kind))
 
   -- an LN carries no data
-  bare : judge rule n (one (pos 0)) ≡ 0
+  pub bare : judge rule n (one (pos 0)) ≡ 0
   bare = other (pos 0) (zero-in (rule .kind))
 
   -- an SN carries one value

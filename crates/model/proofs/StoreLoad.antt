@@ -31,6 +31,7 @@ use Rattle.harl.specs.Message.{ruleFor, judgeRequest, judgeAsked, readRequest, 
 use Rattle.tables.specs.Bits.{bit, withBit}
 use Rattle.tables.specs.Tables.{withInputs, set2, LoadInRange, StoreInRange}
 use Rattle.tables.proofs.Bits.{bit-same, bit-other}
+use Rattle.tables.proofs.Ranges.{readable}
 use Rattle.harl.proofs.Ranges.{passed, in-size, in-nat, all-x}
 use Rattle.harl.proofs.Accepted.{zero-in, accepted-in-range}
 use Rattle.harl.proofs.Requests.{requests-read-back, asked-ok}
@@ -262,6 +263,16 @@ abbrev Ranged : Write → Type 0
 Ranged (sn slice room q) = StoreInRange q
 Ranged (wired p v) = p ≤ 31
 
+-- an LN whose number is in its range
+number-ranged : (rule : Rule) (n : ℕ) → rule .first ≤ n → n ≤ rule .last → judge rule n (one (pos 0)) ≡ 0
+unfolding judge
+number-ranged rule n l h = rw (le-ltb n (rule .first) l, le-ltb (rule .last) n h, one-in (rule .kind) (pos 0) (zero-in (rule .kind)))
+
+-- the LN of its item is in range
+item-ranged : (w : Write) → Ranged w → LoadInRange (itemOf w)
+item-ranged (sn slice room q) e = readable q e
+item-ranged (wired p v) e = number-ranged _ p (omega arith) e
+
 -- the cells with it
 abbrev cellsWith : Arm → Write → List (List Row)
 cellsWith a w =
@@ -275,8 +286,6 @@ record Written (a : Arm) (w : Write) : Type 0 where
   given : dataOf (kindOf (itemOf w)) (brought w) ≡ givenBy w
   -- that cell is there
   within : Within (banks a) (placed (itemOf w))
-  -- its LN is in range
-  readable : LoadInRange (itemOf w)
   binary : Binary (viewOf (itemOf w)) (brought w)
 
 -- a number below the length of its bank
@@ -293,11 +302,6 @@ natural c v low h = ap one (sym (in-nat c v low (all-x c (one v) h)))
 binary-in : (v : ℤ) → allInRange kind.Signal (one v) ≡ true → (natAbs v < 2) × (one v ≡ nat (natAbs v))
 binary-in v h = (omega (arith, in-size kind.Signal v (all-x kind.Signal (one v) h)), sym (natural kind.Signal v refl h))
 
--- an LN whose number is in its range
-number-ranged : (rule : Rule) (n : ℕ) → rule .first ≤ n → n ≤ rule .last → judge rule n (one (pos 0)) ≡ 0
-unfolding judge
-number-ranged rule n l h = rw (le-ltb n (rule .first) l, le-ltb (rule .last) n h, one-in (rule .kind) (pos 0) (zero-in (rule .kind)))
-
 written : (a : Arm) → Sized a → (w : Write) → Ranged w → Written a w
 unfolding replaced
 written a h (sn slice room (store.Timer n v)) e =
@@ -306,7 +310,6 @@ written a h (sn slice room (store.Timer n v)) e =
       cells = rw (map-set, natural kind.Timer v refl (p .values));
       given = refl;
       within = in-bank a h 3 n (omega (arith, p .high));
-      readable = number-ranged _ n (p .low) (p .high);
       binary = tt;
     }
 written a h (sn slice room (store.Register n v)) e =
@@ -315,19 +318,17 @@ written a h (sn slice room (store.Register n v)) e =
       cells = rw (map-set, natural kind.Register v refl (p .values));
       given = refl;
       within = in-bank a h 4 n (omega (arith, p .high));
-      readable = number-ranged _ n (p .low) (p .high);
       binary = tt;
     }
 written a h (sn slice room (store.Row n r)) e =
     let p = passed _ _ _ e in
-    record { cells = rw paired-set; given = refl; within = in-bank a h 5 n (omega (arith, p .high)); readable = number-ranged _ n (p .low) (p .high); binary = tt }
+    record { cells = rw paired-set; given = refl; within = in-bank a h 5 n (omega (arith, p .high)); binary = tt }
 written a h (sn slice room (store.Output g v)) e =
     let p = passed _ _ _ e in
     record {
       cells = rw (map-set, nat-at);
       given = refl;
       within = in-bank a h 1 (g .0 / 8) (omega (arith, p .high));
-      readable = number-ranged _ (g .0) (p .low) (p .high);
       binary = binary-in v (p .values);
     }
 written a h (sn slice room (store.OutputPort n v)) e =
@@ -336,7 +337,6 @@ written a h (sn slice room (store.OutputPort n v)) e =
       cells = rw (map-set, natural kind.Port v refl (p .values));
       given = refl;
       within = in-bank a h 1 (n .0) (omega (arith, p .high));
-      readable = number-ranged _ (n .0) (p .low) (p .high);
       binary = tt;
     }
 written a h (sn slice room (store.MemoryBit g v)) e =
@@ -345,7 +345,6 @@ written a h (sn slice room (store.MemoryBit g v)) e =
       cells = rw (map-set, nat-at);
       given = refl;
       within = in-bank a h 2 ((g .0 - 256) / 8) (omega (arith, p .high, p .low));
-      readable = number-ranged _ (g .0) (p .low) (p .high);
       binary = binary-in v (p .values);
     }
 written a h (sn slice room (store.MemoryPort n v)) e =
@@ -354,11 +353,10 @@ written a h (sn slice room (store.MemoryPort n v)) e =
       cells = rw (map-set, natural kind.Port v refl (p .values));
       given = refl;
       within = in-bank a h 2 (n .0) (omega (arith, p .high));
-      readable = number-ranged _ (n .0) (p .low) (p .high);
       binary = tt;
     }
 written a h (wired n v) e =
-    record { cells = rw map-set; given = refl; within = in-bank a h 0 n (omega arith); readable = number-ranged _ n (omega arith) e; binary = tt }
+    record { cells = rw map-set; given = refl; within = in-bank a h 0 n (omega arith); binary = tt }
 
 -- ---- what is stored and what is kept, on one arm
 
@@ -373,7 +371,7 @@ same-place p q = go (ℕ-discrete (p .bank) (q .bank)) (ℕ-discrete (p .index) 
 module _ (a b : Arm) (w : Write) (ha : Sized a) (hb : Sized b) (e : b ≡ armWith a w) (r : Ranged w) where
   -- the part that is written
   mine : Located a (itemOf w)
-  mine = located a ha (itemOf w) (written a ha w r .readable)
+  mine = located a ha (itemOf w) (item-ranged w r)
 
   cells-after : banks b ≡ cellsWith a w
   cells-after = ap banks e ∙ written a ha w r .cells
@@ -386,7 +384,7 @@ module _ (a b : Arm) (w : Write) (ha : Sized a) (hb : Sized b) (e : b ≡ armWit
   held-same : holds b (itemOf w) ≡ givenBy w
   held-same =
       let d = written a ha w r in
-      located b hb (itemOf w) (d .readable) .answers
+      located b hb (itemOf w) (item-ranged w r) .answers
       ∙ ap (dataOf (kindOf (itemOf w))) (rw cell-after (seen-same (viewOf (itemOf w)) _ (brought w) (mine .bits) (d .binary)))
       ∙ d .given
 
@@ -566,10 +564,9 @@ module _ (b : Box) (r : Ready b) (k : ℕ) (f : Fitted k (b .stations)) where
   stored-told w h =
       let c : Box = after b (callTo k w) in
       let q : Ready c = ready-after b r k f w h in
-      let z = sized b r k (f .0) in
       let i = ranged b r k f w h in
-      told-held c q k (rw (after-stations b (callTo k w)) f) (itemOf w) (written (armOf k b) z w i .readable)
-      ∙ ap replies (held-same (armOf k b) (armOf k c) w z (sized c q k (f .0)) (arm-own b r k f w h) i)
+      told-held c q k (rw (after-stations b (callTo k w)) f) (itemOf w) (item-ranged w i)
+      ∙ ap replies (held-same (armOf k b) (armOf k c) w (sized b r k (f .0)) (sized c q k (f .0)) (arm-own b r k f w h) i)
 
   others-told : (w : Write) → Accepts (stationAt b k) w → (j : ℕ) → Fitted j (b .stations)
       → (l : Load) → (j ≡ k → Other (itemOf w) l) → told (after b (callTo k w)) j l ≡ told b j l

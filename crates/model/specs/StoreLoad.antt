@@ -17,7 +17,7 @@ use Rattle.harl.specs.declared.reply.Data.the-variants as held
 use Rattle.harl.specs.declared.reply.Outcome.the-variants as outcome
 use Rattle.harl.specs.Message.{theRequest, readRequest, writeRequest, ReplyReading, theOutcome, readReply}
 use Rattle.tables.specs.Bits.{bit}
-use Rattle.tables.specs.Tables.{LoadInRange, StoreInRange}
+use Rattle.tables.specs.Tables.{readBy, LoadInRange, StoreInRange}
 use Rattle.model.specs.Call.{Call, serve, input}
 use Rattle.model.specs.Box.{Box, setup, after, answer, run}
 use Rattle.model.specs.Addressed.{Fitted}
@@ -54,16 +54,6 @@ callTo k (wired p v) = input k p v
 abbrev pub Accepts : ℕ → Write → Type 0
 Accepts s (sn slice room q) = (64 ≤ room) × (readRequest slice ≡ theRequest s (request.Store q))
 Accepts s (wired p v) = (p ≤ 31) × (v ≤ 255)
-
--- the item that an SN stores, as the LN that reads it
-abbrev pub readBy : Store → Load
-readBy (store.Timer n v) = load.Timer n
-readBy (store.Register n v) = load.Register n
-readBy (store.Row n r) = load.Row n
-readBy (store.Output g v) = load.Output g
-readBy (store.OutputPort p v) = load.OutputPort p
-readBy (store.MemoryBit g v) = load.MemoryBit g
-readBy (store.MemoryPort p v) = load.MemoryPort p
 
 -- the data that an SN gives
 abbrev pub dataIn : Store → Data

@@ -13,10 +13,12 @@ use Rattle.commands.specs.declared.request.Load.{Load}
 use Rattle.commands.specs.declared.request.Load.the-variants as load
 use Rattle.commands.specs.declared.request.Store.{Store}
 use Rattle.commands.specs.declared.request.Store.the-variants as store
+use Rattle.commands.specs.Command.{timers, registers, rows, signals, ports, memoryBits, memoryPorts}
 use Rattle.commands.specs.Request.{one}
-use Rattle.harl.specs.Data.{limitsOf, allInRange}
+use Rattle.harl.specs.Data.{limitsOf, allInRange, judge}
 use Rattle.harl.proofs.Ranges.{passed, in-size, all-x}
-use Rattle.tables.specs.Tables.{LoadInRange, StoreInRange}
+use Rattle.harl.proofs.Accepted.{bare}
+use Rattle.tables.specs.Tables.{readBy, LoadInRange, StoreInRange}
 
 -- of an LN
 abbrev pub LoadBound : Load → Type 0
@@ -55,34 +57,39 @@ small k limit v h l w =
     let s : natAbs v ≤ natAbs (limitsOf k .high) = in-size k v (all-x k (one v) h) in
     record { size = omega arith; same = in-word v (omega arith) }
 
--- of an SN
-abbrev pub StoreBound : Store → Type 0
-StoreBound (store.Timer n v) = (n < 16) × Small 65536 v
-StoreBound (store.Register n v) = (n < 64) × Small 65536 v
-StoreBound (store.Row n r) = n < 100
-StoreBound (store.Output g v) = (g .0 < 256) × Small 2 v
-StoreBound (store.OutputPort p v) = (p .0 < 32) × Small 256 v
-StoreBound (store.MemoryBit g v) = ((256 ≤ g .0) × (g .0 < 384)) × Small 2 v
-StoreBound (store.MemoryPort p v) = (p .0 < 16) × Small 256 v
+-- of the data of an SN
+abbrev pub DataBound : Store → Type 0
+DataBound (store.Timer n v) = Small 65536 v
+DataBound (store.Register n v) = Small 65536 v
+DataBound (store.Row n r) = Unit
+DataBound (store.Output g v) = Small 2 v
+DataBound (store.OutputPort p v) = Small 256 v
+DataBound (store.MemoryBit g v) = Small 2 v
+DataBound (store.MemoryPort p v) = Small 256 v
 
-store-bound : (q : Store) → StoreInRange q → StoreBound q
-store-bound (store.Timer n v) h =
-    let p = passed _ _ _ h in (omega (arith, p .high), small kind.Timer 65536 v (p .values) (omega arith) (omega arith))
-store-bound (store.Register n v) h =
-    let p = passed _ _ _ h in (omega (arith, p .high), small kind.Register 65536 v (p .values) (omega arith) (omega arith))
-store-bound (store.Row n r) h = omega (arith, passed _ _ _ h .high)
-store-bound (store.Output g v) h =
-    let p = passed _ _ _ h in (omega (arith, p .high), small kind.Signal 2 v (p .values) (omega arith) (omega arith))
-store-bound (store.OutputPort n v) h =
-    let p = passed _ _ _ h in (omega (arith, p .high), small kind.Port 256 v (p .values) (omega arith) (omega arith))
-store-bound (store.MemoryBit g v) h =
-    let p = passed _ _ _ h in ((p .low, omega (arith, p .high)), small kind.Signal 2 v (p .values) (omega arith) (omega arith))
-store-bound (store.MemoryPort n v) h =
-    let p = passed _ _ _ h in (omega (arith, p .high), small kind.Port 256 v (p .values) (omega arith) (omega arith))
+data-bound : (q : Store) → StoreInRange q → DataBound q
+data-bound (store.Timer n v) h = small kind.Timer 65536 v (passed _ _ _ h .values) (omega arith) (omega arith)
+data-bound (store.Register n v) h = small kind.Register 65536 v (passed _ _ _ h .values) (omega arith) (omega arith)
+data-bound (store.Row n r) h = tt
+data-bound (store.Output g v) h = small kind.Signal 2 v (passed _ _ _ h .values) (omega arith) (omega arith)
+data-bound (store.OutputPort p v) h = small kind.Port 256 v (passed _ _ _ h .values) (omega arith) (omega arith)
+data-bound (store.MemoryBit g v) h = small kind.Signal 2 v (passed _ _ _ h .values) (omega arith) (omega arith)
+data-bound (store.MemoryPort p v) h = small kind.Port 256 v (passed _ _ _ h .values) (omega arith) (omega arith)
+
+-- the number of an SN is one of its LN's: they share a row of the command table
+pub readable : (q : Store) → StoreInRange q → LoadInRange (readBy q)
+unfolding judge
+readable (store.Timer n v) h = bare timers n (one v) h
+readable (store.Register n v) h = bare registers n (one v) h
+readable (store.Row n r) h = bare rows n r h
+readable (store.Output g v) h = bare signals (g .0) (one v) h
+readable (store.OutputPort p v) h = bare ports (p .0) (one v) h
+readable (store.MemoryBit g v) h = bare memoryBits (g .0) (one v) h
+readable (store.MemoryPort p v) h = bare memoryPorts (p .0) (one v) h
 
 -- of a request that was matched
 pub load-within : {l m : Load} → l ≡ m → LoadInRange l → LoadBound m
 load-within {l} {m} e h = load-bound m (rw e at h)
 
-pub store-within : {q r : Store} → q ≡ r → StoreInRange q → StoreBound r
-store-within {q} {r} e h = store-bound r (rw e at h)
+pub store-within : {q r : Store} → q ≡ r → StoreInRange q → LoadBound (readBy r) × DataBound r
+store-within {q} {r} e h = let i = rw e at h in (load-bound (readBy r) (readable r i), data-bound r i)

@@ -97,6 +97,16 @@ stored s (store.OutputPort p v) t = withOutputs t (set2 (t .outputs) s (p .0) (n
 stored s (store.MemoryBit g v) t = withMemory t (setSignal2 256 (t .memory) s (g .0) (natAbs v))
 stored s (store.MemoryPort p v) t = withMemory t (set2 (t .memory) s (p .0) (natAbs v))
 
+-- the item that an SN stores, as the LN that reads it
+abbrev pub readBy : Store → Load
+readBy (store.Timer n v) = load.Timer n
+readBy (store.Register n v) = load.Register n
+readBy (store.Row n r) = load.Row n
+readBy (store.Output g v) = load.Output g
+readBy (store.OutputPort p v) = load.OutputPort p
+readBy (store.MemoryBit g v) = load.MemoryBit g
+readBy (store.MemoryPort p v) = load.MemoryPort p
+
 -- every row, register, timer and port at zero
 unfoldable pub zeros : Tables
 zeros =

@@ -19,7 +19,7 @@ store-word-requires-2 c κs =
 store-row-requires : tie.Need-store-row-requires
 store-row-requires c κs =
     let a = c .before .before .before in
-    (a .before .before .pre .0, store-within (a .store3 .given .1) (a .before .before .pre .1))
+    (a .before .before .pre .0, store-within (a .store3 .given .1) (a .before .before .pre .1) .0)
 
 signal-place-requires : tie.Need-signal-place-requires
 signal-place-requires c κs = let a = c .before .before in store-within (a .store4 .given .1) (a .before .before .pre .1) .0
