@@ -326,7 +326,7 @@ fn main() {
           setup 0 100 0 0\0\
           setup 0 0 0 0\0\
           setup 99 98 97 1\0\
-          # The ranges of numbers and data, as document 01 prints them, LND as document 02 (E2).\0\
+          # The ranges of numbers and data, as document 01 prints them, for LND as document 02 does (E2).\0\
           setup 1 0 0 0\0\
           R0 LNT -1 0 15 16\0\
           R1 SNT -1 0 15 16 -0.01 0.00 9.99 10.00\0\
