@@ -19,7 +19,7 @@ use Rattle.harl.specs.declared.reply.Outcome.{Outcome}
 use Rattle.harl.specs.declared.reply.Outcome.the-variants.{Status}
 use Rattle.harl.specs.Body.{readBody}
 use Rattle.harl.specs.Message.{writeRequest, writeReply}
-use Rattle.tables.specs.Chart.{placeOf}
+use Rattle.tables.specs.Place.{placeOf}
 use Rattle.model.specs.Call.{serve}
 use Rattle.model.specs.Box.{setup, answer}
 
@@ -40,7 +40,7 @@ pub data Question : Type 0 where
   serving : List ℕ → Question
   -- a body judged as a request: checks 9 to 12
   judging : List ℕ → Question
-  -- the place of a signal, in a chart that starts with the first
+  -- the place of a signal, in ports that start with the first
   placing : ℕ → ℕ → Question
 
 pub data Result : Type 0 where

@@ -1,4 +1,3 @@
 pub mod Bits
-pub mod Charts
 pub mod Laws
 pub mod Ranges

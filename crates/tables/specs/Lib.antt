@@ -1,3 +1,3 @@
 pub mod Bits
-pub mod Chart
+pub mod Place
 pub mod Tables

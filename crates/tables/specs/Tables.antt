@@ -17,7 +17,7 @@ use Rattle.harl.specs.declared.reply.Outcome.{Outcome}
 use Rattle.harl.specs.declared.reply.Outcome.the-variants as outcome
 use Rattle.harl.specs.Message.{judgeRequest}
 use Rattle.tables.specs.Bits.{bit, withBit}
-use Rattle.tables.specs.Chart.{placeOf}
+use Rattle.tables.specs.Place.{placeOf}
 
 -- something of each kind of item: N for whole numbers, Z for offsets
 pub record PerKind (N Z : Type 0) : Type 0 where

@@ -3,6 +3,6 @@
 // One table for each kind, its outer index the slot and its inner index the number: 16 timers, 64
 // registers, 100 rows of X and Y, 32 input, 32 output and 16 memory ports. Each contract equates the result
 // and every table at exit with definitions of specs/.
-pub mod chart; // chart.rt: the charts of signals
+pub mod place; // place.rt: where a signal stands among the ports
 pub mod ports; // ports.rt: the ports of one arm, whole and by signal
 pub mod perform; // perform.rt: one request on one arm

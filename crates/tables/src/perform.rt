@@ -1,8 +1,8 @@
 // One typed request on one arm. The tables come first, always in the same order. A load takes them as they
 // are; a store replaces what stands under its number, and nothing else. What tables of different width share
 // takes the slot's part of a table, as a slice.
-use crate::chart::memory_place;
-use crate::chart::signal_place;
+use crate::place::memory_place;
+use crate::place::signal_place;
 use crate::ports::load_port;
 use crate::ports::load_signal;
 use crate::ports::store_port;

@@ -1,5 +1,5 @@
 // The ports of one arm, whole and by signal. Inputs, outputs and memory share it; inputs are only read here.
-use crate::chart::Place;
+use crate::place::Place;
 use commands::request::Port;
 use harl::reply::Data;
 use text::hundredths::unsigned_abs;
