@@ -7,10 +7,10 @@ use Rattle.charts.proofs.put_chart.Statement.{statement}
 use Rattle.charts.proofs.put_chart.Tie as tie
 
 abbrev Inv-loop : tie.InvT-loop
-Inv-loop name chart port₀ port-end port = port-end ≡ length chart
+Inv-loop chart rows port₀ port-end port = port-end ≡ length rows
 
 abbrev μ-loop : tie.MeasureT-loop
-μ-loop name chart port₀ port-end port = port-end - port
+μ-loop chart rows port₀ port-end port = port-end - port
 
 loop-holds : tie.Need-loop-holds Inv-loop μ-loop
 loop-holds c = search needs

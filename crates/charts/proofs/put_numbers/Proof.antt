@@ -7,10 +7,10 @@ use Rattle.charts.proofs.put_numbers.Statement.{statement}
 use Rattle.charts.proofs.put_numbers.Tie as tie
 
 abbrev Inv-loop : tie.InvT-loop
-Inv-loop port row found₀ column₀ t7 found column = (column ≤ 8) × (found ≤ column)
+Inv-loop chart port row found₀ column₀ t8 found column = (column ≤ 8) × (found ≤ column)
 
 abbrev μ-loop : tie.MeasureT-loop
-μ-loop port row found₀ column₀ t7 found column = 8 - column
+μ-loop chart port row found₀ column₀ t8 found column = 8 - column
 
 loop-holds : tie.Need-loop-holds Inv-loop μ-loop
 loop-holds c = search needs
