@@ -35,6 +35,8 @@ fn answer_block(
     registers: &mut [[u16; 64]; 4],
     x: &mut [[i32; 100]; 4],
     y: &mut [[i32; 100]; 4],
+    z: &mut [[i32; 100]; 4],
+    w: &mut [[i32; 100]; 4],
     inputs: &mut [[u8; 32]; 4],
     outputs: &mut [[u8; 32]; 4],
     memory: &mut [[u8; 16]; 4],
@@ -46,7 +48,7 @@ fn answer_block(
 ) -> Progress
     requires { ⌜ Within (now held) (now out) start ⌝ }
     requires { ⌜ start .waiting + 132 ≤ 65536 ⌝ }
-    ensures { λ r. ⌜ BlockTaken (cellOf (now (stations .entry)) (tables (now (timers .entry)) (now (registers .entry)) (now (x .entry)) (now (y .entry)) (now (inputs .entry)) (now (outputs .entry)) (now (memory .entry))) (now (held .entry)) (now (out .entry)) start) (now (input .entry)) (cellOf (now (stations .entry)) (tables (now (timers .exit)) (now (registers .exit)) (now (x .exit)) (now (y .exit)) (now (inputs .exit)) (now (outputs .exit)) (now (memory .exit))) (now (held .exit)) (now (out .exit)) r) ⌝ }
+    ensures { λ r. ⌜ BlockTaken (cellOf (now (stations .entry)) (tables (now (timers .entry)) (now (registers .entry)) (now (x .entry)) (now (y .entry)) (now (z .entry)) (now (w .entry)) (now (inputs .entry)) (now (outputs .entry)) (now (memory .entry))) (now (held .entry)) (now (out .entry)) start) (now (input .entry)) (cellOf (now (stations .entry)) (tables (now (timers .exit)) (now (registers .exit)) (now (x .exit)) (now (y .exit)) (now (z .exit)) (now (w .exit)) (now (inputs .exit)) (now (outputs .exit)) (now (memory .exit))) (now (held .exit)) (now (out .exit)) r) ⌝ }
     ensures { λ r. ⌜ Within (now (held .exit)) (now (out .exit)) r ⌝ }
     ensures { λ r. ⌜ r .waiting + 132 ≤ 65536 ⌝ }
 {
@@ -58,6 +60,8 @@ fn answer_block(
             registers,
             x,
             y,
+            z,
+            w,
             inputs,
             outputs,
             memory,
@@ -93,6 +97,8 @@ fn answer_blocks(
     registers: &mut [[u16; 64]; 4],
     x: &mut [[i32; 100]; 4],
     y: &mut [[i32; 100]; 4],
+    z: &mut [[i32; 100]; 4],
+    w: &mut [[i32; 100]; 4],
     inputs: &mut [[u8; 32]; 4],
     outputs: &mut [[u8; 32]; 4],
     memory: &mut [[u8; 16]; 4],
@@ -116,6 +122,8 @@ fn answer_blocks(
             registers,
             x,
             y,
+            z,
+            w,
             inputs,
             outputs,
             memory,
@@ -137,6 +145,8 @@ fn answer_rest(
     registers: &mut [[u16; 64]; 4],
     x: &mut [[i32; 100]; 4],
     y: &mut [[i32; 100]; 4],
+    z: &mut [[i32; 100]; 4],
+    w: &mut [[i32; 100]; 4],
     inputs: &mut [[u8; 32]; 4],
     outputs: &mut [[u8; 32]; 4],
     memory: &mut [[u8; 16]; 4],
@@ -153,6 +163,8 @@ fn answer_rest(
         registers,
         x,
         y,
+        z,
+        w,
         inputs,
         outputs,
         memory,
@@ -170,6 +182,8 @@ fn answer_all(
     registers: &mut [[u16; 64]; 4],
     x: &mut [[i32; 100]; 4],
     y: &mut [[i32; 100]; 4],
+    z: &mut [[i32; 100]; 4],
+    w: &mut [[i32; 100]; 4],
     inputs: &mut [[u8; 32]; 4],
     outputs: &mut [[u8; 32]; 4],
     memory: &mut [[u8; 16]; 4],
@@ -183,6 +197,8 @@ fn answer_all(
         registers,
         x,
         y,
+        z,
+        w,
         inputs,
         outputs,
         memory,
@@ -196,6 +212,8 @@ fn answer_all(
         registers,
         x,
         y,
+        z,
+        w,
         inputs,
         outputs,
         memory,
@@ -212,6 +230,8 @@ fn main() {
     let mut registers = [[0u16; 64]; 4];
     let mut x = [[0i32; 100]; 4];
     let mut y = [[0i32; 100]; 4];
+    let mut z = [[0i32; 100]; 4];
+    let mut w = [[0i32; 100]; 4];
     let mut inputs = [[0u8; 32]; 4];
     let mut outputs = [[0u8; 32]; 4];
     let mut memory = [[0u8; 16]; 4];
@@ -221,6 +241,8 @@ fn main() {
         &mut registers,
         &mut x,
         &mut y,
+        &mut z,
+        &mut w,
         &mut inputs,
         &mut outputs,
         &mut memory,
@@ -232,6 +254,8 @@ fn main() {
         &mut registers,
         &mut x,
         &mut y,
+        &mut z,
+        &mut w,
         &mut inputs,
         &mut outputs,
         &mut memory,

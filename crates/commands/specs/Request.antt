@@ -1,6 +1,8 @@
 -- Typed requests and their parts (document 01, "Commands").
 use Prim.Native.Nat.{ℕ}
+use mathlib.Core.List.{List, [], _∷_}
 use lib.IntN.{ℤ, pos}
+use lib.ListN.{getD}
 use Rattle.commands.specs.declared.command.Command.{Command}
 use Rattle.commands.specs.declared.command.Command.the-variants.{Lnt, Snt, Lnd, Snd, Lnl, Snl, Lnib, Lnob, Snob, Lnid, Lnod, Snod, Lnbb, Snbb, Lnbd, Snbd}
 use Rattle.commands.specs.declared.request.Signal.{Signal}
@@ -14,9 +16,17 @@ use Rattle.commands.specs.declared.request.Request.{Request}
 use Rattle.commands.specs.declared.request.Request.the-variants as request
 use Rattle.commands.specs.declared.request.Parts.{Parts}
 
+-- the fields of a row, in their order
+abbrev pub rowFields : Row → List ℤ
+rowFields r = r .x ∷ r .y ∷ r .z ∷ r .w ∷ []
+
+-- the row of these fields, 0 where one is not given
+abbrev pub rowOf : List ℤ → Row
+rowOf vs = record { x = getD vs 0 (pos 0); y = getD vs 1 (pos 0); z = getD vs 2 (pos 0); w = getD vs 3 (pos 0) }
+
 -- the data of every kind but a row
 abbrev pub one : ℤ → Row
-one v = record { x = v; y = pos 0 }
+one v = rowOf (v ∷ [])
 
 abbrev pub singleParts : Command → ℕ → ℤ → Parts
 singleParts c n v = record { command = c; number = n; values = one v }

@@ -2,7 +2,7 @@
 // no request can carry is refused by its writer.
 use crate::command::Command;
 ghost use mathlib.Core.Path.{_≡_};
-ghost use Rattle.commands.specs.Request.{singleParts, partsOf, loadParts, storeParts, requestOf};
+ghost use Rattle.commands.specs.Request.{rowFields, rowOf, singleParts, partsOf, loadParts, storeParts, requestOf};
 
 // The number of one signal or memory bit. It is never interchangeable with a port's.
 pub struct Signal(pub u16);
@@ -14,6 +14,8 @@ pub struct Port(pub u16);
 pub struct Row {
     pub x: i32,
     pub y: i32,
+    pub z: i32,
+    pub w: i32,
 }
 
 // What an LN asks for.
@@ -52,13 +54,37 @@ pub struct Parts {
     pub values: Row,
 }
 
+// The fields of a row, in their order.
+pub fn fields_of(row: Row) -> [i32; 4]
+    ensures { λ r. ⌜ r ≡ rowFields row ⌝ }
+{
+    [row.x, row.y, row.z, row.w]
+}
+
+// The row of these fields.
+pub fn row_of(fields: [i32; 4]) -> Row
+    ensures { λ r. ⌜ r ≡ rowOf fields ⌝ }
+{
+    Row {
+        x: fields[0],
+        y: fields[1],
+        z: fields[2],
+        w: fields[3],
+    }
+}
+
 fn single(command: Command, number: u16, v: i32) -> Parts
     ensures { λ r. ⌜ r ≡ singleParts command number v ⌝ }
 {
     Parts {
         command,
         number,
-        values: Row { x: v, y: 0 },
+        values: Row {
+            x: v,
+            y: 0,
+            z: 0,
+            w: 0,
+        },
     }
 }
 

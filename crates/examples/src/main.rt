@@ -7,12 +7,14 @@ mod run; // run.rt: the script run line by line
 
 use crate::run::run;
 
-// The tables by document 01's letters: t, d, x, y, i, o, and m for the memory bits; s the stations.
+// The tables by the documents' letters: t, d, x, y, z, w, i, o, and m for the memory bits; s the stations.
 fn main() {
     let mut t = [[0u16; 16]; 4];
     let mut d = [[0u16; 64]; 4];
     let mut x = [[0i32; 100]; 4];
     let mut y = [[0i32; 100]; 4];
+    let mut z = [[0i32; 100]; 4];
+    let mut w = [[0i32; 100]; 4];
     let mut i = [[0u8; 32]; 4];
     let mut o = [[0u8; 32]; 4];
     let mut m = [[0u8; 16]; 4];
@@ -22,6 +24,8 @@ fn main() {
         &mut d,
         &mut x,
         &mut y,
+        &mut z,
+        &mut w,
         &mut i,
         &mut o,
         &mut m,
@@ -84,6 +88,8 @@ fn main() {
         &mut d,
         &mut x,
         &mut y,
+        &mut z,
+        &mut w,
         &mut i,
         &mut o,
         &mut m,
@@ -94,7 +100,7 @@ fn main() {
           Q\x022 LND 63\x03\x72\0\
           Q\x022 SND 63 0042\x03\x4b\0\
           Q\x023 LNL 99\x03\x7e\0\
-          Q\x023 SNL 99 -9999.99 9999.99\x03\x4c\0\
+          Q\x023 SNL 99 -9999.99 9999.99 -0.05 12.50\x03\x52\0\
           Q\x024 LNIB 255\x03\x0c\0\
           Q\x024 LNOB 255\x03\x0a\0\
           Q\x024 SNOB 255 1\x03\x04\0\
@@ -108,7 +114,9 @@ fn main() {
           # Numbers that are read in one form and written in another.\0\
           Q\x021 LNT 0005\x03\x61\0\
           Q\x021 SND 0 7\x03\x4c\0\
-          Q\x021 SNL 0 -0 12.5\x03\x56\0\
+          Q\x021 SNL 0 -0 12.5 7 -0.1\x03\x63\0\
+          # The longest row, which 64 bytes hold.\0\
+          Q\x0299 SNL 99 -9999.99 -9999.99 -9999.99 -9999.99\x03\x52\0\
           # Check 5 of the frame, and check 9: a name in small letters, an empty body, an empty name.\0\
           Q\x021 LNT 5\x03\x50\0\
           Q\x021 lnt 5\x03\x71\0\
@@ -123,14 +131,17 @@ fn main() {
           Q\x021 LNT 5 1\x03\x40\0\
           Q\x021 SND 0 1 2\x03\x58\0\
           Q\x021 SND 0 -1\x03\x67\0\
-          Q\x021 SNL 0 10000 0\x03\x52\0\
+          Q\x021 SNL 0 10000 0 0 0\x03\x52\0\
           Q\x021 SNOD 32 x\x03\x7d\0\
+          # X and Y alone are no row: check 10, which comes before check 11.\0\
+          Q\x021 SNL 0 -0 12.5\x03\x56\0\
+          Q\x021 SNL 100 0 0\x03\x52\0\
           # Check 11, and check 12.\0\
           Q\x021 SNOD 32 256\x03\x34\0\
           Q\x021 LNBB 255\x03\x02\0\
           Q\x021 LNBB 384\x03\x0f\0\
           Q\x021 LNL 100\x03\x4d\0\
-          Q\x021 SNL 100 0 0\x03\x52\0\
+          Q\x021 SNL 100 0 0 0 0\x03\x52\0\
           Q\x021 LND 64\x03\x76\0\
           Q\x021 SND 64 0\x03\x79\0\
           Q\x021 SNT 0 10.00\x03\x44\0\
@@ -150,6 +161,10 @@ fn main() {
           PI\x021 E5\x03\x62\0\
           PN\x021 E05\x03\x52\0\
           PN\x021 000\x03\x22\0\
+          # Check 15 of a row: X and Y alone, three values, five values.\0\
+          PK\x023 -0.05 9999.99\x03\x28\0\
+          PK\x023 -0.05 9999.99 0.00\x03\x16\0\
+          PK\x023 -0.05 9999.99 0.00 0.00 0.00\x03\x16\0\
           # Any two digits may follow E.\0\
           PI\x021 E09\x03\x5e\0\
           # Typed requests written: P2, and checks 7, 11 and 12.\0\
@@ -179,6 +194,8 @@ fn main() {
           TT\0\
           TU\0\
           TV\0\
+          TX\0\
+          TY\0\
           # An area of 63 bytes.\0\
           tI\0\
           tO\0\
@@ -202,6 +219,8 @@ fn main() {
           Yo\0\
           Yp\0\
           Yq\0\
+          Yv\0\
+          Yw\0\
           Yr\0\
           Ys\0\
           Yt\0\
@@ -215,20 +234,40 @@ fn main() {
         &mut d,
         &mut x,
         &mut y,
+        &mut z,
+        &mut w,
         &mut i,
         &mut o,
         &mut m,
         &mut s,
         b"# Row 99 is the last. A refused row changes no arm's tables.\0\
           setup 1 2 3 4\0\
-          S\x021 SNL 99 -9999.99 0.05\x03{\0\
+          S\x021 SNL 99 -9999.99 0.05 12.5 -7\x03y\0\
           S\x021 LNL 99\x03|\0\
-          S\x021 SNL 100 1 2\x03Q\0\
+          S\x021 SNL 100 1 2 3 4\x03V\0\
           S\x021 LNL 100\x03M\0\
           S\x022 LNL 0\x03O\0\
           S\x022 LNL 99\x03\x7f\0\
           S\x023 LNL 99\x03~\0\
           S\x024 LNL 99\x03y\0\
+          # Each field of a row holds its own value. The least and the greatest stand in each place.\0\
+          S\x021 SNL 0 -9999.99 9999.99 0.05 -7\x03\x7f\0\
+          S\x021 SNL 1 -7 -9999.99 9999.99 0.05\x03~\0\
+          S\x021 SNL 2 0.05 -7 -9999.99 9999.99\x03}\0\
+          S\x021 SNL 3 9999.99 0.05 -7 -9999.99\x03|\0\
+          S\x021 LNL 0\x03L\0\
+          S\x021 LNL 1\x03M\0\
+          S\x021 LNL 2\x03N\0\
+          S\x021 LNL 3\x03O\0\
+          # Check 10 of a row: X and Y alone, three values, five values, five digits in each place. The row is kept.\0\
+          S\x021 SNL 0 1 2\x03P\0\
+          S\x021 SNL 0 1 2 3\x03C\0\
+          S\x021 SNL 0 1 2 3 4 5\x03B\0\
+          S\x021 SNL 0 10000 2 3 4\x03W\0\
+          S\x021 SNL 0 1 10000 3 4\x03T\0\
+          S\x021 SNL 0 1 2 10000 4\x03U\0\
+          S\x021 SNL 0 1 2 3 10000\x03R\0\
+          S\x021 LNL 0\x03L\0\
           # Timers.\0\
           S\x021 LNT 5\x03Q\0\
           S\x021 SNT 5 1.25\x03v\0\
@@ -279,7 +318,7 @@ fn main() {
           setup 1 2 3 4\0\
           S\x021 SNT 5 1.25\x03v\0\
           S\x021 SND 63 0042\x03H\0\
-          S\x021 SNL 99 -9999.99 0.05\x03{\0\
+          S\x021 SNL 99 -9999.99 0.05 12.5 -7\x03y\0\
           input slot 0 port 31 byte 200\0\
           S\x021 SNOB 255 1\x03\x01\0\
           S\x021 SNBB 272 1\x03\x09\0\
@@ -293,8 +332,8 @@ fn main() {
           S\x0201 SNT 5 9.99\x03I\0\
           S\x029 SNT 5 9.99\x03q\0\
           S\x021 snt 5 9.99\x03Y\0\
-          S\x021 SNL 99 7 10000\x03e\0\
-          S\x021 SNL 100 7 7\x03R\0\
+          S\x021 SNL 99 7 7 7 10000\x03e\0\
+          S\x021 SNL 100 7 7 7 7\x03R\0\
           S\x021 SNT 5 10.00\x03A\0\
           other setup 1 1 0 0\0\
           input slot 0 port 32 byte 1\0\
@@ -326,14 +365,14 @@ fn main() {
           setup 0 100 0 0\0\
           setup 0 0 0 0\0\
           setup 99 98 97 1\0\
-          # The ranges of numbers and data, as document 01 prints them, for LND as document 02 does (E2).\0\
+          # The ranges of numbers and data by document 01; of LND (E2) and the fields of a row (E6) by document 02.\0\
           setup 1 0 0 0\0\
           R0 LNT -1 0 15 16\0\
           R1 SNT -1 0 15 16 -0.01 0.00 9.99 10.00\0\
           R0 LND -1 0 63 64\0\
           R1 SND -1 0 63 64 -1 0 9999 10000\0\
           R0 LNL -1 0 99 100\0\
-          R2 SNL -1 0 99 100 -10000.00 -9999.99 9999.99 10000.00\0\
+          R4 SNL -1 0 99 100 -10000.00 -9999.99 9999.99 10000.00\0\
           R0 LNIB -1 0 255 256\0\
           R0 LNOB -1 0 255 256\0\
           R1 SNOB -1 0 255 256 -1 0 1 2\0\

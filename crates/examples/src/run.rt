@@ -62,15 +62,17 @@ fn step(
     d: &mut [[u16; 64]; 4],
     x: &mut [[i32; 100]; 4],
     y: &mut [[i32; 100]; 4],
+    z: &mut [[i32; 100]; 4],
+    w: &mut [[i32; 100]; 4],
     i: &mut [[u8; 32]; 4],
     o: &mut [[u8; 32]; 4],
     m: &mut [[u8; 16]; 4],
     s: &mut [u8; 4],
     line: &[u8],
-    before: [i32; 1440],
-) -> [i32; 1440] {
+    before: [i32; 2240],
+) -> [i32; 2240] {
     if is_call(line) {
-        return call(t, d, x, y, i, o, m, s, line, before);
+        return call(t, d, x, y, z, w, i, o, m, s, line, before);
     }
     read(line);
     before
@@ -82,15 +84,17 @@ pub fn run(
     d: &mut [[u16; 64]; 4],
     x: &mut [[i32; 100]; 4],
     y: &mut [[i32; 100]; 4],
+    z: &mut [[i32; 100]; 4],
+    w: &mut [[i32; 100]; 4],
     i: &mut [[u8; 32]; 4],
     o: &mut [[u8; 32]; 4],
     m: &mut [[u8; 16]; 4],
     s: &mut [u8; 4],
     script: &[u8],
 ) {
-    let mut before = [0; 1440];
+    let mut before = [0; 2240];
     for k in 0..count(script, 0) {
-        let after = step(t, d, x, y, i, o, m, s, part(script, 0, k), before);
+        let after = step(t, d, x, y, z, w, i, o, m, s, part(script, 0, k), before);
         before = after;
     }
 }

@@ -34,6 +34,8 @@ fn answer(
     d: &mut [[u16; 64]; 4],
     x: &mut [[i32; 100]; 4],
     y: &mut [[i32; 100]; 4],
+    z: &mut [[i32; 100]; 4],
+    w: &mut [[i32; 100]; 4],
     i: &mut [[u8; 32]; 4],
     o: &mut [[u8; 32]; 4],
     m: &mut [[u8; 16]; 4],
@@ -41,7 +43,7 @@ fn answer(
     slice: &[u8],
     area: &mut [u8],
 ) {
-    let sent = serve(t, d, x, y, i, o, m, s, slice, area);
+    let sent = serve(t, d, x, y, z, w, i, o, m, s, slice, area);
     put_written(sent.number, sent.length, b", no reply", area);
 }
 
@@ -51,6 +53,8 @@ fn set_up_other(want: [u16; 4]) {
     let mut d = [[7u16; 64]; 4];
     let mut x = [[7i32; 100]; 4];
     let mut y = [[7i32; 100]; 4];
+    let mut z = [[7i32; 100]; 4];
+    let mut w = [[7i32; 100]; 4];
     let mut i = [[7u8; 32]; 4];
     let mut o = [[7u8; 32]; 4];
     let mut m = [[7u8; 16]; 4];
@@ -60,6 +64,8 @@ fn set_up_other(want: [u16; 4]) {
         &mut d,
         &mut x,
         &mut y,
+        &mut z,
+        &mut w,
         &mut i,
         &mut o,
         &mut m,
@@ -67,7 +73,10 @@ fn set_up_other(want: [u16; 4]) {
         want,
     ));
     put_stations(&s);
-    put_zero(b", other tables", &snapshot(&t, &d, &x, &y, &i, &o, &m));
+    put_zero(
+        b", other tables",
+        &snapshot(&t, &d, &x, &y, &z, &w, &i, &o, &m),
+    );
 }
 
 // Makes the call of a step; `rest` is its line from the second byte on.
@@ -76,6 +85,8 @@ fn make(
     d: &mut [[u16; 64]; 4],
     x: &mut [[i32; 100]; 4],
     y: &mut [[i32; 100]; 4],
+    z: &mut [[i32; 100]; 4],
+    w: &mut [[i32; 100]; 4],
     i: &mut [[u8; 32]; 4],
     o: &mut [[u8; 32]; 4],
     m: &mut [[u8; 16]; 4],
@@ -85,7 +96,7 @@ fn make(
 ) {
     match step {
         Step::Setup(a, b, c, e) => {
-            put_two(setup(t, d, x, y, i, o, m, s, [a, b, c, e]));
+            put_two(setup(t, d, x, y, z, w, i, o, m, s, [a, b, c, e]));
             put_stations(s);
         }
         Step::Other(a, b, c, e) => set_up_other([a, b, c, e]),
@@ -94,6 +105,8 @@ fn make(
             d,
             x,
             y,
+            z,
+            w,
             i,
             o,
             m,
@@ -104,12 +117,12 @@ fn make(
         )),
         Step::Narrow => {
             let mut area = [0xaa; 63];
-            answer(t, d, x, y, i, o, m, s, rest, &mut area);
+            answer(t, d, x, y, z, w, i, o, m, s, rest, &mut area);
         }
-        Step::Ranges => try_row(t, d, x, y, i, o, m, s, rest),
+        Step::Ranges => try_row(t, d, x, y, z, w, i, o, m, s, rest),
         Step::Serve => {
             let mut area = [0xaa; 64];
-            answer(t, d, x, y, i, o, m, s, rest, &mut area);
+            answer(t, d, x, y, z, w, i, o, m, s, rest, &mut area);
         }
     }
 }
@@ -128,17 +141,19 @@ pub fn call(
     d: &mut [[u16; 64]; 4],
     x: &mut [[i32; 100]; 4],
     y: &mut [[i32; 100]; 4],
+    z: &mut [[i32; 100]; 4],
+    w: &mut [[i32; 100]; 4],
     i: &mut [[u8; 32]; 4],
     o: &mut [[u8; 32]; 4],
     m: &mut [[u8; 16]; 4],
     s: &mut [u8; 4],
     line: &[u8],
-    before: [i32; 1440],
-) -> [i32; 1440] {
+    before: [i32; 2240],
+) -> [i32; 2240] {
     let step = step_of(line);
     put_label(step, line);
-    make(t, d, x, y, i, o, m, s, step, rest(line));
-    let after = snapshot(t, d, x, y, i, o, m);
+    make(t, d, x, y, z, w, i, o, m, s, step, rest(line));
+    let after = snapshot(t, d, x, y, z, w, i, o, m);
     put_tables(step, &before, &after);
     after
 }

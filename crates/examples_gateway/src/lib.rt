@@ -2,5 +2,5 @@
 // answered and whether any table of any arm changed.
 mod steps; // steps.rt: what a line of the script asks for
 mod snapshot; // snapshot.rt: the tables before and after a call compared
-mod ranges; // ranges.rt: a row of document 01's table of ranges
+mod ranges; // ranges.rt: a row of the table of ranges
 pub mod calls; // calls.rt: one call of each kind

@@ -1,6 +1,6 @@
-// A row of document 01's table of ranges: how many data an SN of that name has, the name, the number one below
-// its range, the first, the last and the one above it, and for an SN the same of a datum. Each is served to
-// station 1, and a line says what was answered.
+// A row of document 01's table of ranges, as document 02 leaves it (E2, E6): how many data an SN of that name has,
+// the name, the number one below its range, the first, the last and the one above it, and for an SN the same of a
+// datum. Each is served to station 1, and a line says what was answered.
 use frame::writer::close_frame;
 use gateway::serve::serve;
 use print::front;
@@ -69,7 +69,9 @@ fn write_trial(area: &mut [u8; 256], row: &[u8], trial: Trial) -> usize
     let number = append(area, space, b" ");
     let first = append(area, number, part(row, b' ', trial.number));
     let second = append_datum(area, first, row, 1, trial);
-    append_datum(area, second, row, 2, trial)
+    let third = append_datum(area, second, row, 2, trial);
+    let fourth = append_datum(area, third, row, 3, trial);
+    append_datum(area, fourth, row, 4, trial)
 }
 
 // Writes ETX and the LRC behind the first n bytes, and returns the length of the frame.
@@ -93,6 +95,8 @@ fn try_one(
     d: &mut [[u16; 64]; 4],
     x: &mut [[i32; 100]; 4],
     y: &mut [[i32; 100]; 4],
+    z: &mut [[i32; 100]; 4],
+    w: &mut [[i32; 100]; 4],
     i: &mut [[u8; 32]; 4],
     o: &mut [[u8; 32]; 4],
     m: &mut [[u8; 16]; 4],
@@ -111,6 +115,8 @@ fn try_one(
         d,
         x,
         y,
+        z,
+        w,
         i,
         o,
         m,
@@ -135,14 +141,14 @@ fn first_letter(row: &[u8]) -> u8 {
 
 // How many data the row says.
 fn count_of(row: &[u8]) -> usize
-    ensures { λ r. ⌜ r ≤ 2 ⌝ }
+    ensures { λ r. ⌜ r ≤ 4 ⌝ }
 {
     if row.len() == 0 {
         return 0;
     }
     match row[0] {
         b'1' => 1,
-        b'2' => 2,
+        b'4' => 4,
         _ => 0,
     }
 }
@@ -150,7 +156,7 @@ fn count_of(row: &[u8]) -> usize
 // Trial n of a row: the four numbers with data of 0, and then for each field the four data under the first number and
 // the LN of what was stored.
 fn trial_of(row: &[u8], n: usize) -> Trial
-    requires { ⌜ n ≤ 14 ⌝ }
+    requires { ⌜ n ≤ 24 ⌝ }
 {
     if n < 4 {
         return Trial {
@@ -185,6 +191,8 @@ pub fn try_row(
     d: &mut [[u16; 64]; 4],
     x: &mut [[i32; 100]; 4],
     y: &mut [[i32; 100]; 4],
+    z: &mut [[i32; 100]; 4],
+    w: &mut [[i32; 100]; 4],
     i: &mut [[u8; 32]; 4],
     o: &mut [[u8; 32]; 4],
     m: &mut [[u8; 16]; 4],
@@ -192,6 +200,6 @@ pub fn try_row(
     row: &[u8],
 ) {
     for n in 0..4 + 5 * count_of(row) {
-        try_one(t, d, x, y, i, o, m, s, row, trial_of(row, n));
+        try_one(t, d, x, y, z, w, i, o, m, s, row, trial_of(row, n));
     }
 }

@@ -48,12 +48,14 @@ fn entry(
     d: &[[u16; 64]; 4],
     x: &[[i32; 100]; 4],
     y: &[[i32; 100]; 4],
+    z: &[[i32; 100]; 4],
+    w: &[[i32; 100]; 4],
     i: &[[u8; 32]; 4],
     o: &[[u8; 32]; 4],
     m: &[[u8; 16]; 4],
     n: usize,
 ) -> i32
-    requires { ⌜ n < 1440 ⌝ }
+    requires { ⌜ n < 2240 ⌝ }
 {
     if n < 64 {
         return timer(t, n);
@@ -67,13 +69,19 @@ fn entry(
     if n < 1120 {
         return offset(y, n - 720);
     }
-    if n < 1248 {
-        return port(i, n - 1120);
+    if n < 1520 {
+        return offset(z, n - 1120);
     }
-    if n < 1376 {
-        return port(o, n - 1248);
+    if n < 1920 {
+        return offset(w, n - 1520);
     }
-    memory_port(m, n - 1376)
+    if n < 2048 {
+        return port(i, n - 1920);
+    }
+    if n < 2176 {
+        return port(o, n - 2048);
+    }
+    memory_port(m, n - 2176)
 }
 
 // Every entry of the tables.
@@ -82,23 +90,25 @@ pub fn snapshot(
     d: &[[u16; 64]; 4],
     x: &[[i32; 100]; 4],
     y: &[[i32; 100]; 4],
+    z: &[[i32; 100]; 4],
+    w: &[[i32; 100]; 4],
     i: &[[u8; 32]; 4],
     o: &[[u8; 32]; 4],
     m: &[[u8; 16]; 4],
-) -> [i32; 1440] {
-    let mut entries = [0; 1440];
+) -> [i32; 2240] {
+    let mut entries = [0; 2240];
     let mut n = 0;
-    while n < 1440 {
-        entries[n] = entry(t, d, x, y, i, o, m, n);
+    while n < 2240 {
+        entries[n] = entry(t, d, x, y, z, w, i, o, m, n);
         n += 1;
     }
     entries
 }
 
 // Whether two snapshots are equal.
-fn is_same(a: &[i32; 1440], b: &[i32; 1440]) -> bool {
+fn is_same(a: &[i32; 2240], b: &[i32; 2240]) -> bool {
     let mut n = 0;
-    while n < 1440 {
+    while n < 2240 {
         if a[n] != b[n] {
             return false;
         }
@@ -108,8 +118,8 @@ fn is_same(a: &[i32; 1440], b: &[i32; 1440]) -> bool {
 }
 
 // Says of the tables so named whether every entry is 0.
-pub fn put_zero(name: &[u8], entries: &[i32; 1440]) {
-    let zero = [0; 1440];
+pub fn put_zero(name: &[u8], entries: &[i32; 2240]) {
+    let zero = [0; 2240];
     put(name);
     if is_same(entries, &zero) {
         put(b" zero");
@@ -118,7 +128,7 @@ pub fn put_zero(name: &[u8], entries: &[i32; 1440]) {
     }
 }
 
-fn put_same(before: &[i32; 1440], after: &[i32; 1440]) {
+fn put_same(before: &[i32; 2240], after: &[i32; 2240]) {
     if is_same(before, after) {
         put(b", tables unchanged");
     } else {
@@ -127,7 +137,7 @@ fn put_same(before: &[i32; 1440], after: &[i32; 1440]) {
 }
 
 // What a step left in the tables: those of a new box are zero, and others changed or not.
-pub fn put_tables(step: Step, before: &[i32; 1440], after: &[i32; 1440]) {
+pub fn put_tables(step: Step, before: &[i32; 2240], after: &[i32; 2240]) {
     match step {
         Step::Ranges => return,
         Step::Setup(_, _, _, _) => put_zero(b", tables", after),

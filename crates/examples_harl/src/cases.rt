@@ -17,8 +17,8 @@ fn store(station: u8, store: Store) -> Case {
     Case(station, Request::Store(store))
 }
 
-fn row(x: i32, y: i32) -> Case {
-    store(1, Store::Row(0, Row { x, y }))
+fn row(x: i32, y: i32, z: i32, w: i32) -> Case {
+    store(1, Store::Row(0, Row { x, y, z, w }))
 }
 
 pub fn case_of(letter: u8) -> Case {
@@ -47,9 +47,11 @@ pub fn case_of(letter: u8) -> Case {
         // The ends of data, and one beyond, which no text in its form can give.
         b'R' => store(1, Store::Register(0, 9999)),
         b'S' => store(1, Store::Register(0, 10000)),
-        b'T' => row(999999, -999999),
-        b'U' => row(1000000, 0),
-        b'V' => row(0, -1000000),
+        b'T' => row(999999, -999999, 999999, -999999),
+        b'U' => row(1000000, 0, 0, 0),
+        b'V' => row(0, -1000000, 0, 0),
+        b'X' => row(0, 0, 1000000, 0),
+        b'Y' => row(0, 0, 0, -1000000),
         // Check 7 refuses this.
         _ => load(0, Load::Timer(5)),
     }

@@ -52,6 +52,11 @@ fn data(held: Data, letter: u8) -> Reply {
     Reply(Outcome::Data(held), letter)
 }
 
+// A row, which answers the request K.
+fn row(x: i32, y: i32, z: i32, w: i32) -> Reply {
+    data(Data::Row(Row { x, y, z, w }), b'K')
+}
+
 fn status(n: u8, letter: u8) -> Reply {
     Reply(Outcome::Status(n), letter)
 }
@@ -62,7 +67,7 @@ fn reply_of(letter: u8) -> Reply {
         // Data of each kind.
         b'a' => data(Data::Timer(999), b'I'),
         b'b' => data(Data::Register(42), b'J'),
-        b'c' => data(Data::Row(Row { x: -5, y: 999999 }), b'K'),
+        b'c' => row(-5, 999999, -999999, 1250),
         b'd' => data(Data::Signal(1), b'L'),
         b'e' => data(Data::Port(255), b'M'),
         // Statuses, the last of them P2's.
@@ -80,6 +85,8 @@ fn reply_of(letter: u8) -> Reply {
         b'o' => data(Data::Timer(1000), b'I'),
         b'p' => data(Data::Timer(-1), b'I'),
         b'q' => data(Data::Timer(0), b'N'),
+        b'v' => row(0, 0, 1000000, 0),
+        b'w' => row(0, 0, 0, -1000000),
         // Checks 7, 11 and 12 of the request come before.
         b'r' => status(100, b'B'),
         b's' => status(100, b'D'),

@@ -10,13 +10,18 @@ use print::put;
 use print::put_signed;
 use print::put_whole;
 
-// A kind, by its place among those that put_kind has; the item's number; and its values, of which the first
-// `count` are meant.
+// The values of an item: none, one, or a row.
+enum Values {
+    Nothing,
+    One(i32),
+    Row(Row),
+}
+
+// A kind, by its place among those that put_kind has; the item's number; and its values.
 struct Words {
     kind: usize,
     number: u16,
-    count: u8,
-    values: Row,
+    values: Values,
 }
 
 fn put_kind(k: usize) {
@@ -27,31 +32,37 @@ fn put_kind(k: usize) {
     ));
 }
 
-fn put_values(count: u8, row: Row) {
-    if 0 < count {
-        put(b" ");
-        put_signed(row.x);
-    }
-    if 1 < count {
-        put(b" ");
-        put_signed(row.y);
+fn put_value(v: i32) {
+    put(b" ");
+    put_signed(v);
+}
+
+fn put_values(values: Values) {
+    match values {
+        Values::Nothing => {}
+        Values::One(v) => put_value(v),
+        Values::Row(row) => {
+            put_value(row.x);
+            put_value(row.y);
+            put_value(row.z);
+            put_value(row.w);
+        }
     }
 }
 
 fn put_words(words: Words) {
-    let row = words.values;
+    let values = words.values;
     put_kind(words.kind);
     put(b" ");
     put_whole(words.number as u64);
-    put_values(words.count, row);
+    put_values(values);
 }
 
 fn loaded(kind: usize, number: u16) -> Words {
     Words {
         kind,
         number,
-        count: 0,
-        values: Row { x: 0, y: 0 },
+        values: Values::Nothing,
     }
 }
 
@@ -73,8 +84,7 @@ fn stored(kind: usize, number: u16, v: i32) -> Words {
     Words {
         kind,
         number,
-        count: 1,
-        values: Row { x: v, y: 0 },
+        values: Values::One(v),
     }
 }
 
@@ -85,8 +95,7 @@ fn store_words(store: Store) -> Words {
         Store::Row(n, row) => Words {
             kind: 2,
             number: n,
-            count: 2,
-            values: row,
+            values: Values::Row(row),
         },
         Store::Output(s, v) => stored(5, s.0, v),
         Store::OutputPort(p, v) => stored(6, p.0, v),
@@ -108,20 +117,20 @@ pub fn put_request(request: Request) {
     }
 }
 
-fn put_data(kind: usize, count: u8, row: Row) {
+fn put_data(kind: usize, values: Values) {
     put_kind(kind);
-    put_values(count, row);
+    put_values(values);
 }
 
 fn put_single(kind: usize, v: i32) {
-    put_data(kind, 1, Row { x: v, y: 0 });
+    put_data(kind, Values::One(v));
 }
 
 fn put_held(held: Data) {
     match held {
         Data::Timer(v) => put_single(0, v),
         Data::Register(v) => put_single(1, v),
-        Data::Row(row) => put_data(2, 2, row),
+        Data::Row(row) => put_data(2, Values::Row(row)),
         Data::Signal(v) => put_single(9, v),
         Data::Port(v) => put_single(10, v),
     }

@@ -68,6 +68,8 @@ fn serve_body(
     registers: &mut [[u16; 64]; 4],
     x: &mut [[i32; 100]; 4],
     y: &mut [[i32; 100]; 4],
+    z: &mut [[i32; 100]; 4],
+    w: &mut [[i32; 100]; 4],
     inputs: &mut [[u8; 32]; 4],
     outputs: &mut [[u8; 32]; 4],
     memory: &mut [[u8; 16]; 4],
@@ -77,9 +79,9 @@ fn serve_body(
     reply: &mut [u8],
 ) -> Sent
     ghost { Tables }
-    requires { λ t. ⌜ tables (now timers) (now registers) (now x) (now y) (now inputs) (now outputs) (now memory) ≡ t ⌝ }
+    requires { λ t. ⌜ tables (now timers) (now registers) (now x) (now y) (now z) (now w) (now inputs) (now outputs) (now memory) ≡ t ⌝ }
     requires { λ t. ⌜ (slot < 4) × (64 ≤ length (now reply)) ⌝ }
-    ensures { λ t r. ⌜ BodyServed slot station (now (body .entry)) t (now (reply .entry)) r (tables (now (timers .exit)) (now (registers .exit)) (now (x .exit)) (now (y .exit)) (now (inputs .exit)) (now (outputs .exit)) (now (memory .exit))) (now (reply .exit)) ⌝ }
+    ensures { λ t r. ⌜ BodyServed slot station (now (body .entry)) t (now (reply .entry)) r (tables (now (timers .exit)) (now (registers .exit)) (now (x .exit)) (now (y .exit)) (now (z .exit)) (now (w .exit)) (now (inputs .exit)) (now (outputs .exit)) (now (memory .exit))) (now (reply .exit)) ⌝ }
 {
     let judged = read_body(body);
     match judged {
@@ -89,6 +91,8 @@ fn serve_body(
                 registers,
                 x,
                 y,
+                z,
+                w,
                 inputs,
                 outputs,
                 memory,
@@ -112,6 +116,8 @@ pub fn serve(
     registers: &mut [[u16; 64]; 4],
     x: &mut [[i32; 100]; 4],
     y: &mut [[i32; 100]; 4],
+    z: &mut [[i32; 100]; 4],
+    w: &mut [[i32; 100]; 4],
     inputs: &mut [[u8; 32]; 4],
     outputs: &mut [[u8; 32]; 4],
     memory: &mut [[u8; 16]; 4],
@@ -119,7 +125,7 @@ pub fn serve(
     slice: &[u8],
     reply: &mut [u8],
 ) -> Sent
-    ensures { λ r. ⌜ Served (box (now (stations .entry)) (tables (now (timers .entry)) (now (registers .entry)) (now (x .entry)) (now (y .entry)) (now (inputs .entry)) (now (outputs .entry)) (now (memory .entry)))) (now (slice .entry)) (now (reply .entry)) r (tables (now (timers .exit)) (now (registers .exit)) (now (x .exit)) (now (y .exit)) (now (inputs .exit)) (now (outputs .exit)) (now (memory .exit))) (now (reply .exit)) ⌝ }
+    ensures { λ r. ⌜ Served (box (now (stations .entry)) (tables (now (timers .entry)) (now (registers .entry)) (now (x .entry)) (now (y .entry)) (now (z .entry)) (now (w .entry)) (now (inputs .entry)) (now (outputs .entry)) (now (memory .entry)))) (now (slice .entry)) (now (reply .entry)) r (tables (now (timers .exit)) (now (registers .exit)) (now (x .exit)) (now (y .exit)) (now (z .exit)) (now (w .exit)) (now (inputs .exit)) (now (outputs .exit)) (now (memory .exit))) (now (reply .exit)) ⌝ }
 {
     if reply.len() < 64 {
         return Sent {
@@ -140,6 +146,8 @@ pub fn serve(
             registers,
             x,
             y,
+            z,
+            w,
             inputs,
             outputs,
             memory,

@@ -69,16 +69,20 @@ fn clear(
     registers: &mut [[u16; 64]; 4],
     x: &mut [[i32; 100]; 4],
     y: &mut [[i32; 100]; 4],
+    z: &mut [[i32; 100]; 4],
+    w: &mut [[i32; 100]; 4],
     inputs: &mut [[u8; 32]; 4],
     outputs: &mut [[u8; 32]; 4],
     memory: &mut [[u8; 16]; 4],
 )
-    ensures { λ _. ⌜ tables (now (timers .exit)) (now (registers .exit)) (now (x .exit)) (now (y .exit)) (now (inputs .exit)) (now (outputs .exit)) (now (memory .exit)) ≡ zeros ⌝ }
+    ensures { λ _. ⌜ tables (now (timers .exit)) (now (registers .exit)) (now (x .exit)) (now (y .exit)) (now (z .exit)) (now (w .exit)) (now (inputs .exit)) (now (outputs .exit)) (now (memory .exit)) ≡ zeros ⌝ }
 {
     *timers = [[0; 16]; 4];
     *registers = [[0; 64]; 4];
     *x = [[0; 100]; 4];
     *y = [[0; 100]; 4];
+    *z = [[0; 100]; 4];
+    *w = [[0; 100]; 4];
     *inputs = [[0; 32]; 4];
     *outputs = [[0; 32]; 4];
     *memory = [[0; 16]; 4];
@@ -91,15 +95,17 @@ pub fn setup(
     registers: &mut [[u16; 64]; 4],
     x: &mut [[i32; 100]; 4],
     y: &mut [[i32; 100]; 4],
+    z: &mut [[i32; 100]; 4],
+    w: &mut [[i32; 100]; 4],
     inputs: &mut [[u8; 32]; 4],
     outputs: &mut [[u8; 32]; 4],
     memory: &mut [[u8; 16]; 4],
     stations: &mut [u8; 4],
     want: [u16; 4],
 ) -> u8
-    ensures { λ r. ⌜ SetUp want r (now (stations .exit)) (tables (now (timers .exit)) (now (registers .exit)) (now (x .exit)) (now (y .exit)) (now (inputs .exit)) (now (outputs .exit)) (now (memory .exit))) ⌝ }
+    ensures { λ r. ⌜ SetUp want r (now (stations .exit)) (tables (now (timers .exit)) (now (registers .exit)) (now (x .exit)) (now (y .exit)) (now (z .exit)) (now (w .exit)) (now (inputs .exit)) (now (outputs .exit)) (now (memory .exit))) ⌝ }
 {
-    clear(timers, registers, x, y, inputs, outputs, memory);
+    clear(timers, registers, x, y, z, w, inputs, outputs, memory);
     let number = judge_setup(want);
     if number != 0 {
         *stations = [0; 4];

@@ -21,29 +21,21 @@ use Rattle.commands.specs.Request.{one, builds}
 use Rattle.harl.specs.declared.body.Shape.{Shape}
 use Rattle.harl.specs.declared.body.Shape.the-variants as shape
 use Rattle.harl.specs.declared.body.Judged.the-variants.{Accepted, Refused}
-use Rattle.harl.specs.Data.{inRange, allInRange, judge}
+use Rattle.data.specs.Ranges.{inRange, allInRange, judge}
 use Rattle.harl.specs.Body.{readShape, requestOrRefusal, shaped, afterName, ofFields, readBody}
 use Rattle.harl.specs.Message.{judgeRequest}
-use Rattle.harl.proofs.Ranges.{passed, all-x}
+use Rattle.data.proofs.Bounds.{passed, all-x, zero-in, one-in}
 use Rattle.frame.specs.Fields.{fields}
 
 -- ---- the parts of a built request are judged as what it was built of
 
-pub zero-in : (k : Kind) → inRange k (pos 0) ≡ true
-unfolding inRange
-zero-in kind.Timer = refl
-zero-in kind.Register = refl
-zero-in kind.Row = refl
-zero-in kind.Signal = refl
-zero-in kind.Port = refl
-
 module _ (rule : Rule) (n : ℕ) (row : Row) (h : judge rule n row ≡ 0) where
   -- another value in range
   other : (v : ℤ) → inRange (rule .kind) v ≡ true → judge rule n (one v) ≡ 0
-  unfolding judge allInRange
+  unfolding judge
   other v e =
       let p = passed rule n row h in
-      rw (le-ltb n (rule .first) (p .low), le-ltb (rule .last) n (p .high), e, zero-in (rule .kind))
+      rw (le-ltb n (rule .first) (p .low), le-ltb (rule .last) n (p .high), one-in (rule .kind) v e)
 
   -- an LN carries no data
   pub bare : judge rule n (one (pos 0)) ≡ 0

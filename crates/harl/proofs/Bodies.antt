@@ -8,9 +8,11 @@ use lib.Dec.{eqb}
 use lib.ListN.{length, length-append}
 use Rattle.text.specs.Put.{Put}
 use Rattle.text.specs.Whole.{digit, shortest}
-use Rattle.text.proofs.Digits.{shortest-short}
-use Rattle.frame.specs.Frame.{frameOf}
+use Rattle.text.proofs.Laws.{Skips}
+use Rattle.text.proofs.Digits.{shortest-some, shortest-short}
+use Rattle.frame.specs.Frame.{isStray, readFrame, frameOf}
 use Rattle.frame.proofs.Writing.{frame-length}
+use Rattle.frame.proofs.Reading.{frame-reads-back}
 use Rattle.commands.specs.declared.command.Command.{Command}
 use Rattle.commands.specs.declared.command.Command.the-variants.{Lnt, Snt, Lnd, Snd, Lnl, Snl, Lnib, Lnob, Snob, Lnid, Lnod, Snod, Lnbb, Snbb, Lnbd, Snbd}
 use Rattle.commands.specs.declared.command.Kind.{Kind}
@@ -22,7 +24,7 @@ use Rattle.commands.specs.Command.{nameOf, ruleOf}
 use Rattle.harl.specs.Body.{dataPart, bodyText}
 use Rattle.harl.specs.Reply.{contentOf, unknownText, statusText, refusalText, performedText, outcomeText}
 use Rattle.harl.specs.Message.{Wrote}
-use Rattle.harl.proofs.Texts.{data-length}
+use Rattle.data.proofs.Texts.{data-length}
 
 -- ---- lengths
 
@@ -50,11 +52,11 @@ pub body-parts : (p : Parts) → length (bodyText p) ≡ length (nameOf (p .comm
 unfolding bodyText
 body-parts p = simp length-append (omega arith)
 
-part-length : (t : Bool) (k : Kind) (r : Row) → length (dataPart t k r) ≤ 18
+part-length : (t : Bool) (k : Kind) (r : Row) → length (dataPart t k r) ≤ 36
 part-length true k r = omega (arith, data-length k r .1)
 part-length false k r = omega arith
 
-pub body-length : (p : Parts) → (1 ≤ length (bodyText p)) × (length (bodyText p) ≤ 27)
+pub body-length : (p : Parts) → (1 ≤ length (bodyText p)) × (length (bodyText p) ≤ 45)
 body-length p =
     let d = part-length (ruleOf (p .command) .store) (ruleOf (p .command) .kind) (p .values) in
     (omega (arith, body-parts p), omega (arith, body-parts p, name-length (p .command), shortest-short (p .number)))
@@ -71,7 +73,7 @@ refusal-length n store = go (eqb n 9)
     go true = omega arith
     go false = status-length store n .1
 
-pub outcome-length : (store : Bool) (o : Outcome) → (1 ≤ length (outcomeText store o)) × (length (outcomeText store o) ≤ 17)
+pub outcome-length : (store : Bool) (o : Outcome) → (1 ≤ length (outcomeText store o)) × (length (outcomeText store o) ≤ 35)
 unfolding outcomeText
 outcome-length store (outcome.Data d) = data-length (contentOf d .kind) (contentOf d .row)
 outcome-length store (outcome.Status n) =
@@ -84,8 +86,15 @@ unfolding outcomeText
 performed-text (outcome.Data d) = refl
 performed-text (outcome.Status n) = refl
 
+-- a frame of a short body with no stray byte is accepted
+pub frame-back : (st : ℕ) (body : List ℕ) → 1 ≤ st → st ≤ 99 → Skips isStray body → 1 ≤ length body → length body ≤ 99 → readFrame (frameOf st body) ≡ record { number = 0; station = st; body = body }
+frame-back st body h k p low high =
+    frame-reads-back st body h k p
+    (omega (arith, frame-length st body, shortest-some st))
+    (omega (arith, frame-length st body, shortest-short st))
+
 -- the frame of such a body fits in the area that a writer asks for
-pub frame-fits : (station : ℕ) (body : List ℕ) → length body ≤ 27 → length (frameOf station body) ≤ 64
+pub frame-fits : (station : ℕ) (body : List ℕ) → length body ≤ 45 → length (frameOf station body) ≤ 64
 frame-fits station body h = omega (arith, frame-length station body, shortest-short station)
 
 -- ---- what a writer answers

@@ -1,7 +1,7 @@
--- What data that answer a command are, and byte strings that compare as the same.
-use Prim.Native.Nat.{ℕ, zero, suc}
+-- Checks that pass, what data that answer a command are, and byte strings that compare as the same.
+use Prim.Native.Nat.{ℕ, zero, suc, _≤_}
 use mathlib.Core.Path.{_≡_, refl, sym, ap, ap₂, _∙_}
-use mathlib.Core.Bool.{Bool, true, false, cond, _&&_, and-eq-true-iff}
+use mathlib.Core.Bool.{Bool, true, false, cond, _&&_, _||_, and-eq-true-iff}
 use mathlib.Core.List.{List, [], _∷_}
 use native.Mathlib.Omega.{arith}
 use borrow.Author.Tests.{eqb-true}
@@ -13,8 +13,21 @@ use Rattle.commands.specs.declared.command.Rule.{Rule}
 use Rattle.harl.specs.declared.reply.Content.{Content}
 use Rattle.harl.specs.declared.reply.Data.{Data}
 use Rattle.harl.specs.declared.reply.Outcome.the-variants as outcome
-use Rattle.harl.specs.Data.{allInRange}
+use Rattle.data.specs.Ranges.{allInRange}
 use Rattle.harl.specs.Reply.{contentOf, codeOf, dataFit, judgeOutcome}
+
+-- ---- refusal numbers, which are 0 where a check passes
+
+-- a check with a number of its own, and then the rest
+pub check-passed : (t : Bool) (k m : ℕ) → 1 ≤ k → cond t k m ≡ 0 → (t ≡ false) × (m ≡ 0)
+check-passed true k m h e = absurd (omega arith)
+check-passed false k m h e = (refl, e)
+
+pub neither : (s t : Bool) → s || t ≡ false → (s ≡ false) × (t ≡ false)
+neither true t e = let z : _≡_ {A = ℕ} 0 1 = cc in absurd (omega arith)
+neither false t e = (refl, e)
+
+-- ---- data that answer a command
 
 -- a kind is known by its number
 pub kind-is : (k j : Kind) → codeOf k ≡ codeOf j → k ≡ j

@@ -15,15 +15,16 @@ use Rattle.commands.specs.declared.command.Kind.{Kind}
 use Rattle.commands.specs.declared.command.Rule.{Rule}
 use Rattle.commands.specs.declared.request.Row.{Row}
 use Rattle.commands.specs.declared.request.Parts.{Parts}
-use Rattle.harl.specs.declared.data.Values.{Values}
-use Rattle.harl.specs.declared.data.Values.the-variants as values
+use Rattle.data.specs.declared.data.Values.{Values}
+use Rattle.data.specs.declared.data.Values.the-variants as values
 use Rattle.harl.specs.declared.body.Shape.{Shape}
 use Rattle.harl.specs.declared.body.Shape.the-variants as shape
 use Rattle.harl.specs.declared.body.Judged.{Judged}
 use Rattle.harl.specs.declared.body.Judged.the-variants.{Accepted, Refused}
 use Rattle.commands.specs.Command.{commandOf, nameOf, ruleOf}
 use Rattle.commands.specs.Request.{one, builds}
-use Rattle.harl.specs.Data.{judge, readData, dataText}
+use Rattle.data.specs.Ranges.{judge}
+use Rattle.data.specs.Data.{readData, dataText}
 
 -- the fields after the number: data for an SN, none for an LN
 abbrev pub dataShape : Bool → Kind → List (List ℕ) → Values

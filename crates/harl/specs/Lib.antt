@@ -1,4 +1,3 @@
-pub mod Data
 pub mod Body
 pub mod Reply
 pub mod Message

@@ -22,7 +22,7 @@ use Rattle.harl.specs.declared.message.Answered.the-variants as answered
 use Rattle.harl.specs.declared.message.Sent.{Sent}
 use Rattle.commands.specs.Command.{ruleOf}
 use Rattle.commands.specs.Request.{partsOf}
-use Rattle.harl.specs.Data.{judge}
+use Rattle.data.specs.Ranges.{judge}
 use Rattle.harl.specs.Body.{readBody, bodyText}
 use Rattle.harl.specs.Reply.{judgeOutcome, outcomeText, readOutcome}
 

@@ -13,8 +13,8 @@ use Rattle.commands.specs.declared.command.Kind.{Kind}
 use Rattle.commands.specs.declared.command.Kind.the-variants as kind
 use Rattle.commands.specs.declared.command.Rule.{Rule}
 use Rattle.commands.specs.declared.request.Row.{Row}
-use Rattle.harl.specs.declared.data.Values.{Values}
-use Rattle.harl.specs.declared.data.Values.the-variants as values
+use Rattle.data.specs.declared.data.Values.{Values}
+use Rattle.data.specs.declared.data.Values.the-variants as values
 use Rattle.harl.specs.declared.reply.Data.{Data}
 use Rattle.harl.specs.declared.reply.Data.the-variants as held
 use Rattle.harl.specs.declared.reply.Outcome.{Outcome}
@@ -23,7 +23,8 @@ use Rattle.harl.specs.declared.reply.Carried.{Carried}
 use Rattle.harl.specs.declared.reply.Carried.the-variants as carried
 use Rattle.harl.specs.declared.reply.Content.{Content}
 use Rattle.commands.specs.Request.{one}
-use Rattle.harl.specs.Data.{allInRange, readData, dataText}
+use Rattle.data.specs.Ranges.{allInRange}
+use Rattle.data.specs.Data.{readData, dataText}
 
 abbrev pub contentFrom : Kind → ℤ → Content
 contentFrom k v = record { kind = k; row = one v }

@@ -1,8 +1,4 @@
 // The body of a request, read and written. Serving reads a body whose frame and station it has judged.
-use crate::data::Values;
-use crate::data::judge_parts;
-use crate::data::put_data;
-use crate::data::read_data;
 use commands::command::Command;
 use commands::command::Named;
 use commands::command::Rule;
@@ -13,6 +9,10 @@ use commands::request::Parts;
 use commands::request::Request;
 use commands::request::Row;
 use commands::request::request_of;
+use data::data::Values;
+use data::data::put_data;
+use data::data::read_data;
+use data::ranges::judge_parts;
 use frame::fields::end_of;
 use text::put::put_byte;
 use text::whole::Whole;
@@ -51,7 +51,15 @@ fn read_shape(rule: Rule, s: &[u8]) -> Shape
         if rule.store {
             return Shape::Malformed;
         }
-        return Shape::Of(n, Row { x: 0, y: 0 });
+        return Shape::Of(
+            n,
+            Row {
+                x: 0,
+                y: 0,
+                z: 0,
+                w: 0,
+            },
+        );
     }
     if rule.store {
         let from = end + 1;

@@ -3,7 +3,6 @@
 use crate::body::Judged;
 use crate::body::put_body;
 use crate::body::read_body;
-use crate::data::judge_parts;
 use crate::reply::Carried;
 use crate::reply::Outcome;
 use crate::reply::judge_outcome;
@@ -12,6 +11,7 @@ use crate::reply::read_outcome;
 use commands::command::rule_of;
 use commands::request::Request;
 use commands::request::parts_of;
+use data::ranges::judge_parts;
 use frame::reader::read_frame;
 use frame::writer::close_frame;
 use frame::writer::open_frame;

@@ -1,12 +1,12 @@
 // The body of a reply, read and written.
-use crate::data::Values;
-use crate::data::all_in_range;
-use crate::data::put_data;
-use crate::data::read_data;
 use commands::command::Kind;
 use commands::command::Rule;
 use commands::command::is_same;
 use commands::request::Row;
+use data::data::Values;
+use data::data::put_data;
+use data::data::read_data;
+use data::ranges::all_in_range;
 use text::put::put_byte;
 use text::put::put_bytes;
 use text::whole::Whole;
@@ -56,7 +56,12 @@ fn single(kind: Kind, v: i32) -> Content
 {
     Content {
         kind,
-        row: Row { x: v, y: 0 },
+        row: Row {
+            x: v,
+            y: 0,
+            z: 0,
+            w: 0,
+        },
     }
 }
 

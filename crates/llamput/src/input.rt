@@ -10,6 +10,8 @@ pub extern "C" fn llamput_input(
     registers: &mut [[u16; 64]; 4],
     x: &mut [[i32; 100]; 4],
     y: &mut [[i32; 100]; 4],
+    z: &mut [[i32; 100]; 4],
+    w: &mut [[i32; 100]; 4],
     inputs: &mut [[u8; 32]; 4],
     outputs: &mut [[u8; 32]; 4],
     memory: &mut [[u8; 16]; 4],
@@ -18,13 +20,15 @@ pub extern "C" fn llamput_input(
     port: u16,
     byte: u8,
 ) -> u8
-    ensures { λ r. ⌜ InputSet (box (now (stations .entry)) (tables (now (timers .entry)) (now (registers .entry)) (now (x .entry)) (now (y .entry)) (now (inputs .entry)) (now (outputs .entry)) (now (memory .entry)))) slot port byte r (tables (now (timers .exit)) (now (registers .exit)) (now (x .exit)) (now (y .exit)) (now (inputs .exit)) (now (outputs .exit)) (now (memory .exit))) ⌝ }
+    ensures { λ r. ⌜ InputSet (box (now (stations .entry)) (tables (now (timers .entry)) (now (registers .entry)) (now (x .entry)) (now (y .entry)) (now (z .entry)) (now (w .entry)) (now (inputs .entry)) (now (outputs .entry)) (now (memory .entry)))) slot port byte r (tables (now (timers .exit)) (now (registers .exit)) (now (x .exit)) (now (y .exit)) (now (z .exit)) (now (w .exit)) (now (inputs .exit)) (now (outputs .exit)) (now (memory .exit))) ⌝ }
 {
     gateway::input::input(
         timers,
         registers,
         x,
         y,
+        z,
+        w,
         inputs,
         outputs,
         memory,

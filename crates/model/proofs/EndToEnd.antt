@@ -23,7 +23,8 @@ use Rattle.model.specs.Addressed.{Fitted, isFor, armOf}
 use Rattle.model.specs.Shaped.{Shaped}
 use Rattle.model.specs.Ranges.{InRange}
 use Rattle.model.specs.EndToEnd.{outcomeOf, armAfter, Exchanged, EndToEnd}
-use Rattle.model.proofs.Laws.{one-in, row-in, bit-in, written-frame, written-in, fitting-in, outcome-back}
+use Rattle.data.proofs.Bounds.{one-in}
+use Rattle.model.proofs.Laws.{row-in, bit-in, written-frame, written-in, fitting-in, outcome-back}
 use Rattle.model.proofs.Slots.{Apart, setup-apart}
 use Rattle.model.proofs.Isolation.{after-same, run-stations, always-shaped}
 use Rattle.model.proofs.Ranges.{always-in-range}
@@ -52,7 +53,7 @@ module _ (b : Box) (k : ℕ) (h : InRange (b .tables)) where
   unfolding holds
   held (load.Timer n) = record { loads = refl; kind = refl; range = one-in kind.Timer _ (h .timers k n) }
   held (load.Register n) = record { loads = refl; kind = refl; range = one-in kind.Register _ (h .registers k n) }
-  held (load.Row n) = record { loads = refl; kind = refl; range = row-in _ (h .x k n) (h .y k n) }
+  held (load.Row n) = record { loads = refl; kind = refl; range = row-in _ (let c = h .rows in record { x = c .x k n; y = c .y k n; z = c .z k n; w = c .w k n }) }
   held (load.Input g) = record { loads = refl; kind = refl; range = bit-in _ }
   held (load.InputPort p) = record { loads = refl; kind = refl; range = one-in kind.Port _ (h .inputs k (p .0)) }
   held (load.Output g) = record { loads = refl; kind = refl; range = bit-in _ }

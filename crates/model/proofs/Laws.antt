@@ -23,17 +23,15 @@ use Rattle.harl.specs.declared.body.Judged.the-variants as judged
 use Rattle.harl.specs.declared.reply.Data.{Data}
 use Rattle.harl.specs.declared.reply.Outcome.{Outcome}
 use Rattle.harl.specs.declared.reply.Outcome.the-variants as outcome
-use Rattle.harl.specs.Data.{limitsOf, inRange, allInRange, judge}
+use Rattle.data.specs.Ranges.{limitsOf, inRange, eachInRange, allInRange, judge}
 use Rattle.harl.specs.Body.{readBody}
 use Rattle.harl.specs.Reply.{contentOf, codeOf, dataFit, judgeOutcome, outcomeText}
 use Rattle.harl.specs.Message.{ruleFor, judgeAsked, theRequest, noRequest, fromStation, requestIn, readRequest, writeRequest, judgeReply, writeReply, theOutcome, readReply}
-use Rattle.harl.proofs.Laws.{Fitting}
-use Rattle.harl.proofs.Accepted.{zero-in}
-use Rattle.harl.proofs.Ranges.{in-nat, all-x, all-y, passed}
-use Rattle.harl.proofs.Texts.{check-passed}
+use Rattle.data.proofs.Bounds.{in-nat, head-in, tail-in, all-x, one-in, passed}
+use Rattle.harl.proofs.Laws.{check-passed, Fitting}
 use Rattle.harl.proofs.Requests.{requests-read-back}
 use Rattle.harl.proofs.Replies.{replies-read-back}
-use Rattle.tables.specs.Tables.{set2}
+use Rattle.tables.specs.Tables.{PerField, columns, EachField, asRow, set2}
 
 -- ---- tests
 
@@ -101,21 +99,26 @@ signal-in v h = up-to 1 v h
 pub natural-in : (c : Kind) (v : ℤ) → limitsOf c .low ≡ pos 0 → inRange c v ≡ true → inRange c (pos (natAbs v)) ≡ true
 natural-in c v low h = rw (← in-nat c v low h) h
 
--- data of one value, of two, and a bit
-pub one-in : (c : Kind) (v : ℤ) → inRange c v ≡ true → allInRange c (one v) ≡ true
-unfolding allInRange
-one-in c v h = rw (h, zero-in c)
+-- the fields of a row
+pub row-in : (c : PerField ℤ) → EachField (λ v. inRange kind.Row v ≡ true) c → allInRange kind.Row (asRow c) ≡ true
+unfolding allInRange eachInRange
+row-in c h = rw (h .x, h .y, h .z, h .w)
 
-pub row-in : (r : Row) → inRange kind.Row (r .x) ≡ true → inRange kind.Row (r .y) ≡ true → allInRange kind.Row r ≡ true
+pub row-out : (r : Row) → allInRange kind.Row r ≡ true → EachField (λ v. inRange kind.Row v ≡ true) (columns (r .x) (r .y) (r .z) (r .w))
 unfolding allInRange
-row-in r x y = rw (x, y)
+row-out r h =
+    let y = tail-in kind.Row (r .x) _ h in
+    let z = tail-in kind.Row (r .y) _ y in
+    let w = tail-in kind.Row (r .z) _ z in
+    record { x = head-in kind.Row (r .x) _ h; y = head-in kind.Row (r .y) _ y; z = head-in kind.Row (r .z) _ z; w = head-in kind.Row (r .w) _ w }
 
+-- a bit
 pub bit-in : (n : ℕ) → allInRange kind.Signal (one (pos (n % 2))) ≡ true
 bit-in n = one-in kind.Signal (pos (n % 2)) (signal-in (n % 2) (omega arith))
 
--- the data of a request that passes checks 11 and 12
-pub data-in : (rule : Rule) (n : ℕ) (r : Row) → judge rule n r ≡ 0 → (inRange (rule .kind) (r .x) ≡ true) × (inRange (rule .kind) (r .y) ≡ true)
-data-in rule n r e = let h = passed rule n r e .values in (all-x (rule .kind) r h, all-y (rule .kind) r h)
+-- the first value of a request that passes checks 11 and 12
+pub data-in : (rule : Rule) (n : ℕ) (r : Row) → judge rule n r ≡ 0 → inRange (rule .kind) (r .x) ≡ true
+data-in rule n r e = all-x (rule .kind) r (passed rule n r e .values)
 
 -- ---- requests and replies as they are written
 

@@ -18,18 +18,18 @@ use Rattle.commands.specs.declared.request.Request.the-variants as request
 use Rattle.commands.specs.Command.{ruleOf}
 use Rattle.harl.specs.declared.body.Judged.{Judged}
 use Rattle.harl.specs.declared.body.Judged.the-variants as judged
-use Rattle.harl.specs.Data.{inRange}
+use Rattle.data.specs.Ranges.{inRange}
 use Rattle.harl.specs.Body.{readBody}
 use Rattle.harl.specs.Message.{judgeRequest}
-use Rattle.harl.proofs.Ranges.{in-size, and-left, and-right}
-use Rattle.harl.proofs.Accepted.{accepted-in-range, zero-in}
+use Rattle.data.proofs.Bounds.{in-size, and-left, and-right, zero-in, passed}
+use Rattle.harl.proofs.Accepted.{accepted-in-range}
 use Rattle.tables.specs.Bits.{withBit}
 use Rattle.tables.specs.Tables.{Tables, StoreInRange, set2, stored, zeros}
 use Rattle.tables.proofs.Bits.{with-bit-byte}
 use Rattle.model.specs.Call.{Call, serve, input}
 use Rattle.model.specs.Box.{Box, setup, Slot, nowhere, at, slotOf, Decision, unanswered, refused, accepted, inputSet, decideBody, decideSlot, decide, performTables, perform, after, run}
 use Rattle.model.specs.Ranges.{InRange, bringsByte, bringBytes, AlwaysInRange}
-use Rattle.model.proofs.Laws.{cond-has, Every, every-set, every-equal, port-in, natural-in, data-in}
+use Rattle.model.proofs.Laws.{cond-has, Every, every-set, every-equal, port-in, natural-in, row-out, data-in}
 
 -- ---- a store
 
@@ -57,15 +57,15 @@ set-offset = every-set Offset (pos 0)
 -- an SN that is accepted
 stored-in : (t : Tables) (k : ℕ) (q : Store) → StoreInRange q → InRange t → InRange (stored k q t)
 unfolding stored
-stored-in t k (store.Timer n v) e h = search (set-natural, natural-in kind.Timer v refl (data-in _ _ _ e .0))
-stored-in t k (store.Register n v) e h = search (set-natural, natural-in kind.Register v refl (data-in _ _ _ e .0))
-stored-in t k (store.Row n r) e h = search (set-offset, data-in (ruleOf Snl) n r e)
+stored-in t k (store.Timer n v) e h = search (set-natural, natural-in kind.Timer v refl (data-in _ _ _ e))
+stored-in t k (store.Register n v) e h = search (set-natural, natural-in kind.Register v refl (data-in _ _ _ e))
+stored-in t k (store.Row n r) e h = search (set-offset, row-out r (passed (ruleOf Snl) n r e .values))
 stored-in t k (store.Output g v) e h =
-    search (set-natural, with-bit-in _ (g .0 - 0) v (h .outputs k ((g .0 - 0) / 8)) (data-in _ _ _ e .0))
-stored-in t k (store.OutputPort p v) e h = search (set-natural, natural-in kind.Port v refl (data-in _ _ _ e .0))
+    search (set-natural, with-bit-in _ (g .0 - 0) v (h .outputs k ((g .0 - 0) / 8)) (data-in _ _ _ e))
+stored-in t k (store.OutputPort p v) e h = search (set-natural, natural-in kind.Port v refl (data-in _ _ _ e))
 stored-in t k (store.MemoryBit g v) e h =
-    search (set-natural, with-bit-in _ (g .0 - 256) v (h .memory k ((g .0 - 256) / 8)) (data-in _ _ _ e .0))
-stored-in t k (store.MemoryPort p v) e h = search (set-natural, natural-in kind.Port v refl (data-in _ _ _ e .0))
+    search (set-natural, with-bit-in _ (g .0 - 256) v (h .memory k ((g .0 - 256) / 8)) (data-in _ _ _ e))
+stored-in t k (store.MemoryPort p v) e h = search (set-natural, natural-in kind.Port v refl (data-in _ _ _ e))
 
 -- ---- what is decided of a call
 

@@ -7,7 +7,8 @@ use Rattle.frame.specs.Checksum.{xorOnto, lrcOf}
 use Rattle.frame.specs.Fields.{first, more, fields}
 use Rattle.frame.specs.Frame.{stationOf, readInner, readFrame, opening, closing, frameOf}
 use Rattle.commands.specs.Command.{same, nameOf, among, commandOf}
-use Rattle.harl.specs.Data.{inRange, allInRange, judge, rowText}
+use Rattle.data.specs.Ranges.{inRange, eachInRange, allInRange, judge}
+use Rattle.data.specs.Data.{readFields, dataText}
 use Rattle.harl.specs.Body.{readShape, requestOrRefusal, readBody}
 use Rattle.harl.specs.Reply.{statusText, outcomeText}
 use Rattle.tables.specs.Tables.{loaded, stored, zeros}
@@ -19,7 +20,7 @@ pub runs-hold : Runs
 unfolding until digitsOnto readWhole digit leading shortest padded
     decimals magnitude readHundredths magnitudeText hundredthsText
     xorOnto lrcOf first more fields stationOf readInner readFrame opening closing frameOf
-    same nameOf among commandOf inRange allInRange judge rowText readShape requestOrRefusal readBody statusText outcomeText
+    same nameOf among commandOf inRange eachInRange allInRange judge readFields dataText readShape requestOrRefusal readBody statusText outcomeText
     loaded stored zeros
     tooHigh contains repeats setupNumber setup scan slotOf decide perform respond after answer replayedTurns
 runs-hold = refl

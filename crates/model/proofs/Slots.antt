@@ -13,7 +13,7 @@ use Rattle.frame.specs.Frame.{Reading, readFrame}
 use Rattle.harl.specs.declared.body.Judged.{Judged}
 use Rattle.harl.specs.declared.body.Judged.the-variants as judged
 use Rattle.harl.specs.Body.{readBody}
-use Rattle.harl.proofs.Ranges.{and-left, and-right}
+use Rattle.data.proofs.Bounds.{and-left, and-right}
 use Rattle.model.specs.Call.{Call, serve, input}
 use Rattle.model.specs.Setup.{setupNumber}
 use Rattle.model.specs.Box.{setup, Slot, nowhere, at, scan, slotOf, Decision, unanswered, refused, accepted, inputSet, decideBody, decideSlot, decideFrame, decide}

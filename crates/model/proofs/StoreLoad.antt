@@ -24,16 +24,16 @@ use Rattle.commands.specs.declared.request.Request.{Request}
 use Rattle.commands.specs.declared.request.Request.the-variants as request
 use Rattle.commands.specs.Request.{one, port, signal, partsOf}
 use Rattle.harl.specs.declared.reply.Data.the-variants as held
-use Rattle.harl.specs.Data.{limitsOf, allInRange, judge}
+use Rattle.data.specs.Ranges.{limitsOf, allInRange, judge}
 use Rattle.harl.specs.Body.{readBody}
 use Rattle.harl.specs.Reply.{dataOf}
 use Rattle.harl.specs.Message.{ruleFor, judgeRequest, judgeAsked, readRequest, writeRequest, noOutcome, readReply}
 use Rattle.tables.specs.Bits.{bit, withBit}
-use Rattle.tables.specs.Tables.{withInputs, set2, LoadInRange, StoreInRange}
+use Rattle.tables.specs.Tables.{PerField, eachField, eachWith, EachField, asRow, withInputs, set2, LoadInRange, StoreInRange}
 use Rattle.tables.proofs.Bits.{bit-same, bit-other}
 use Rattle.tables.proofs.Ranges.{readable}
-use Rattle.harl.proofs.Ranges.{passed, in-size, in-nat, all-x}
-use Rattle.harl.proofs.Accepted.{zero-in, accepted-in-range}
+use Rattle.data.proofs.Bounds.{passed, in-size, in-nat, all-x, zero-in, one-in}
+use Rattle.harl.proofs.Accepted.{accepted-in-range}
 use Rattle.harl.proofs.Requests.{requests-read-back, asked-ok}
 use Rattle.model.specs.Call.{serve, input}
 use Rattle.model.specs.Setup.{setupNumber}
@@ -43,7 +43,7 @@ use Rattle.model.specs.Addressed.{Fitted, isFor, armOf}
 use Rattle.model.specs.Shaped.{Shaped}
 use Rattle.model.specs.Ranges.{InRange, bringsByte}
 use Rattle.model.specs.StoreLoad.{stationAt, told, replies, Write, sn, wired, callTo, Accepts, itemOf, givenBy, portOf, View, entire, bitAt, viewOf, Other, StoreLoad}
-use Rattle.model.proofs.Laws.{one-in, framed}
+use Rattle.model.proofs.Laws.{framed}
 use Rattle.model.proofs.Slots.{Apart, setup-apart, concerns, body-concerns, heard, decided}
 use Rattle.model.proofs.Arms.{other}
 use Rattle.model.proofs.Shaped.{after-shaped}
@@ -65,34 +65,62 @@ row-within [] c i h = absurd (omega arith)
 row-within (r ∷ t) zero i h = omega arith
 row-within (r ∷ t) (suc c) i h = omega (arith, row-within t c i h)
 
--- the columns X and Y as one
-paired : List ℤ → List ℤ → List Row
+-- two columns as one
+paired : {A B : Type 0} → List A → List B → List (A × B)
 paired [] ys = []
 paired (x ∷ xs) [] = []
-paired (x ∷ xs) (y ∷ ys) = record { x = x; y = y } ∷ paired xs ys
+paired (x ∷ xs) (y ∷ ys) = (x, y) ∷ paired xs ys
 
-paired-set : (xs ys : List ℤ) (i : ℕ) (r : Row) → paired (set xs i (r .x)) (set ys i (r .y)) ≡ set (paired xs ys) i r
-unfolding paired
-paired-set [] ys i r = refl
-paired-set (x ∷ xs) [] zero r = refl
-paired-set (x ∷ xs) [] (suc i) r = refl
-paired-set (x ∷ xs) (y ∷ ys) zero r = refl
-paired-set (x ∷ xs) (y ∷ ys) (suc i) r = ap (λ t. record { x = x; y = y } ∷ t) (paired-set xs ys i r)
+module _ {A B : Type 0} where
+  paired-set : (xs : List A) (ys : List B) (i : ℕ) (a : A) (b : B) → paired (set xs i a) (set ys i b) ≡ set (paired xs ys) i (a, b)
+  unfolding paired
+  paired-set [] ys i a b = refl
+  paired-set (x ∷ xs) [] zero a b = refl
+  paired-set (x ∷ xs) [] (suc i) a b = refl
+  paired-set (x ∷ xs) (y ∷ ys) zero a b = refl
+  paired-set (x ∷ xs) (y ∷ ys) (suc i) a b = ap (λ t. (x, y) ∷ t) (paired-set xs ys i a b)
 
-paired-at : (xs ys : List ℤ) (i : ℕ) → length xs ≡ length ys
-    → getD (paired xs ys) i (one (pos 0)) ≡ record { x = getD xs i (pos 0); y = getD ys i (pos 0) }
-unfolding paired
-paired-at [] [] i e = refl
-paired-at [] (y ∷ ys) i e = absurd (omega arith)
-paired-at (x ∷ xs) [] i e = absurd (omega arith)
-paired-at (x ∷ xs) (y ∷ ys) zero e = refl
-paired-at (x ∷ xs) (y ∷ ys) (suc i) e = paired-at xs ys i (omega arith)
+  paired-at : (xs : List A) (ys : List B) (i : ℕ) (a : A) (b : B) → length xs ≡ length ys → getD (paired xs ys) i (a, b) ≡ (getD xs i a, getD ys i b)
+  unfolding paired
+  paired-at [] [] i a b e = refl
+  paired-at [] (y ∷ ys) i a b e = absurd (omega arith)
+  paired-at (x ∷ xs) [] i a b e = absurd (omega arith)
+  paired-at (x ∷ xs) (y ∷ ys) zero a b e = refl
+  paired-at (x ∷ xs) (y ∷ ys) (suc i) a b e = paired-at xs ys i a b (omega arith)
 
-paired-length : (xs ys : List ℤ) → length xs ≡ length ys → length (paired xs ys) ≡ length xs
-unfolding paired
-paired-length [] ys e = refl
-paired-length (x ∷ xs) [] e = absurd (omega arith)
-paired-length (x ∷ xs) (y ∷ ys) e = ap suc (paired-length xs ys (omega arith))
+  paired-length : (xs : List A) (ys : List B) → length xs ≡ length ys → length (paired xs ys) ≡ length xs
+  unfolding paired
+  paired-length [] ys e = refl
+  paired-length (x ∷ xs) [] e = absurd (omega arith)
+  paired-length (x ∷ xs) (y ∷ ys) e = ap suc (paired-length xs ys (omega arith))
+
+-- the columns of the fields as one column of rows
+abbrev joined : (ℤ × ℤ) × (ℤ × ℤ) → Row
+joined p = record { x = p .0 .0; y = p .0 .1; z = p .1 .0; w = p .1 .1 }
+
+abbrev rowsFrom : PerField (List ℤ) → List Row
+rowsFrom c = map joined (paired (paired (c .x) (c .y)) (paired (c .z) (c .w)))
+
+rows-set : (c : PerField (List ℤ)) (i : ℕ) (r : Row) → rowsFrom (eachWith (λ t v. set t i v) c r) ≡ set (rowsFrom c) i r
+rows-set c i r = simp (paired-set, map-set)
+
+-- columns of a length n
+module _ (n : ℕ) (c : PerField (List ℤ)) (h : EachField (λ t. length t ≡ n) c) where
+  left : length (paired (c .x) (c .y)) ≡ n
+  left = paired-length (c .x) (c .y) (h .x ∙ sym (h .y)) ∙ h .x
+
+  right : length (paired (c .z) (c .w)) ≡ n
+  right = paired-length (c .z) (c .w) (h .z ∙ sym (h .w)) ∙ h .z
+
+  pairs-length : length (paired (paired (c .x) (c .y)) (paired (c .z) (c .w))) ≡ n
+  pairs-length = paired-length (paired (c .x) (c .y)) (paired (c .z) (c .w)) (left ∙ sym right) ∙ left
+
+  rows-at : (i : ℕ) → getD (rowsFrom c) i (one (pos 0)) ≡ asRow (eachField (λ t. getD t i (pos 0)) c)
+  rows-at i =
+      List·getD-map joined (paired (paired (c .x) (c .y)) (paired (c .z) (c .w))) i ((pos 0, pos 0), (pos 0, pos 0))
+      ∙ ap joined
+      (paired-at (paired (c .x) (c .y)) (paired (c .z) (c .w)) i (pos 0, pos 0) (pos 0, pos 0) (left ∙ sym right)
+      ∙ ap₂ (λ p q. (p, q)) (paired-at (c .x) (c .y) i (pos 0) (pos 0) (h .x ∙ sym (h .y))) (paired-at (c .z) (c .w) i (pos 0) (pos 0) (h .z ∙ sym (h .w))))
 
 -- ---- cells
 
@@ -170,7 +198,7 @@ seen-other n m r v b d l ne = ap nat (bit-other (natAbs (r .x)) n (natAbs (v .x)
 abbrev banks : Arm → List (List Row)
 banks a =
     map nat (a .inputs) ∷ map nat (a .outputs) ∷ map nat (a .memory) ∷
-    map nat (a .timers) ∷ map nat (a .registers) ∷ paired (a .x) (a .y) ∷ []
+    map nat (a .timers) ∷ map nat (a .registers) ∷ rowsFrom (a .rows) ∷ []
 
 -- the length of each
 abbrev lengths : List ℕ
@@ -209,7 +237,7 @@ kindOf l = ruleFor (request.Load l) .kind
 
 -- what is known of an arm's tables: their lengths, and that ports are bytes
 record Sized (a : Arm) : Type 0 where
-  columns : length (a .x) ≡ length (a .y)
+  columns : EachField (λ t. length t ≡ 100) (a .rows)
   sizes : map length (banks a) ≡ lengths
   inputs : (n : ℕ) → getD (a .inputs) n 0 < 256
   outputs : (n : ℕ) → getD (a .outputs) n 0 < 256
@@ -232,7 +260,7 @@ located : (a : Arm) → Sized a → (l : Load) → LoadInRange l → Located a l
 unfolding holds
 located a h (load.Timer n) z = record { answers = rw nat-at; item = refl; port = refl; bits = tt }
 located a h (load.Register n) z = record { answers = rw nat-at; item = refl; port = refl; bits = tt }
-located a h (load.Row n) z = record { answers = rw (paired-at (a .x) (a .y) n (h .columns)); item = refl; port = refl; bits = tt }
+located a h (load.Row n) z = record { answers = rw (rows-at 100 (a .rows) (h .columns) n); item = refl; port = refl; bits = tt }
 located a h (load.Input g) z =
     let e : g .0 / 8 * 8 + g .0 % 8 ≡ g .0 = omega arith in
     record { answers = rw nat-at; item = rw e; port = refl; bits = rw nat-at (omega arith, h .inputs (g .0 / 8)) }
@@ -322,7 +350,7 @@ written a h (sn slice room (store.Register n v)) e =
     }
 written a h (sn slice room (store.Row n r)) e =
     let p = passed _ _ _ e in
-    record { cells = rw paired-set; given = refl; within = in-bank a h 5 n (omega (arith, p .high)); binary = tt }
+    record { cells = rw (rows-set (a .rows) n r); given = refl; within = in-bank a h 5 n (omega (arith, p .high)); binary = tt }
 written a h (sn slice room (store.Output g v)) e =
     let p = passed _ _ _ e in
     record {
@@ -448,19 +476,18 @@ record Ready (b : Box) : Type 0 where
 sized : (b : Box) → Ready b → (k : ℕ) → k < 4 → Sized (armOf k b)
 sized b r k l =
     let t = r .shaped in
-    let same = t .x .row k l ∙ sym (t .y .row k l) in
+    let c : EachField (λ t. length t ≡ 100) (armOf k b .rows) = let r = t .rows in record { x = r .x .row k l; y = r .y .row k l; z = r .z .row k l; w = r .w .row k l } in
     record {
-      columns = same;
+      columns = c;
       sizes =
           simp (
             length-map,
-            paired-length (armOf k b .x) (armOf k b .y) same,
+            pairs-length 100 (armOf k b .rows) c,
             t .inputs .row k l,
             t .outputs .row k l,
             t .memory .row k l,
             t .timers .row k l,
             t .registers .row k l,
-            t .x .row k l,
           );
       inputs = λ n. omega (arith, in-size kind.Port _ (r .range .inputs k n));
       outputs = λ n. omega (arith, in-size kind.Port _ (r .range .outputs k n));

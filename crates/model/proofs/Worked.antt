@@ -7,9 +7,10 @@ use Rattle.frame.specs.Checksum.{xorOnto, lrcOf}
 use Rattle.frame.specs.Frame.{stationOf, readInner, readFrame, opening, closing, frameOf}
 use Rattle.frame.specs.Fields.{first, more, fields}
 use Rattle.commands.specs.Command.{same, nameOf, among, commandOf}
-use Rattle.harl.specs.Data.{inRange, allInRange, judge}
+use Rattle.data.specs.Ranges.{inRange, eachInRange, allInRange, judge}
+use Rattle.data.specs.Data.{readFields, dataText}
 use Rattle.harl.specs.Body.{readShape, requestOrRefusal, readBody, bodyText}
-use Rattle.harl.specs.Reply.{judgeOutcome, statusText, outcomeText}
+use Rattle.harl.specs.Reply.{dataFit, judgeOutcome, statusText, outcomeText}
 use Rattle.harl.specs.Message.{judgeAsked, writeRequest, judgeReply, writeReply}
 use Rattle.tables.specs.Tables.{loaded, stored, zeros}
 use Rattle.model.specs.Setup.{tooHigh, contains, repeats, setupNumber}
@@ -19,7 +20,7 @@ use Rattle.model.specs.Worked.{resultOf, worked, Worked}
 pub worked-out : Worked
 unfolding resultOf worked until readWhole digitsOnto digit leading shortest padded decimals magnitude
     readHundredths magnitudeText hundredthsText xorOnto lrcOf opening closing frameOf first more fields same
-    nameOf among commandOf inRange allInRange judge readShape requestOrRefusal readBody bodyText judgeOutcome statusText
+    nameOf among commandOf inRange eachInRange allInRange judge readFields dataText readShape requestOrRefusal readBody bodyText dataFit judgeOutcome statusText
     outcomeText judgeAsked writeRequest judgeReply writeReply stationOf readInner readFrame loaded stored zeros
     tooHigh contains repeats setupNumber setup scan slotOf decide respond answer
 worked-out = refl

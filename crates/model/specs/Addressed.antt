@@ -6,6 +6,7 @@ use mathlib.Core.List.{List, [], _∷_}
 use lib.ListN.{getD}
 use lib.Dec.{leb, eqb}
 use Rattle.frame.specs.Frame.{readFrame}
+use Rattle.tables.specs.Tables.{eachField}
 use Rattle.model.specs.Call.{Call, serve, input, Answer}
 use Rattle.model.specs.Box.{Box, after, answer}
 use Rattle.model.specs.Lone.{Arm, Event, frameIn, portIn}
@@ -43,8 +44,7 @@ armOf k b =
     record {
       timers = getD (b .tables .timers) k [];
       registers = getD (b .tables .registers) k [];
-      x = getD (b .tables .x) k [];
-      y = getD (b .tables .y) k [];
+      rows = eachField (λ t. getD t k []) (b .tables .rows);
       inputs = getD (b .tables .inputs) k [];
       outputs = getD (b .tables .outputs) k [];
       memory = getD (b .tables .memory) k [];

@@ -19,7 +19,7 @@ use Rattle.harl.specs.declared.reply.Data.the-variants as held
 use Rattle.harl.specs.Body.{readBody}
 use Rattle.harl.specs.Reply.{contentOf, contentText, refusalText, doneText}
 use Rattle.tables.specs.Bits.{bit, withBit}
-use Rattle.tables.specs.Tables.{PerKind, withTimers, withRegisters, withRows, withInputs, withOutputs, withMemory}
+use Rattle.tables.specs.Tables.{PerKind, eachField, eachWith, asRow, tables, withTimers, withRegisters, withRows, withInputs, withOutputs, withMemory}
 use Rattle.model.specs.Call.{Answer, noReply}
 
 -- 16 timers, 64 registers, 100 rows, 32 input, 32 output and 16 memory ports
@@ -29,15 +29,9 @@ Arm = PerKind (List ℕ) (List ℤ)
 -- all zero at first
 unfoldable pub zeroArm : Arm
 zeroArm =
-    record {
-      timers = replicate 16 0;
-      registers = replicate 64 0;
-      x = replicate 100 (pos 0);
-      y = replicate 100 (pos 0);
-      inputs = replicate 32 0;
-      outputs = replicate 32 0;
-      memory = replicate 16 0;
-    }
+    tables (replicate 16 0) (replicate 64 0)
+    (replicate 100 (pos 0)) (replicate 100 (pos 0)) (replicate 100 (pos 0)) (replicate 100 (pos 0))
+    (replicate 32 0) (replicate 32 0) (replicate 16 0)
 
 -- a serving call's slice; an input call's port and byte
 pub data Event : Type 0 where
@@ -55,7 +49,7 @@ withSignal ports n v = set ports (n / 8) (withBit (getD ports (n / 8) 0) (n % 8)
 unfoldable pub holds : Arm → Load → Data
 holds a (load.Timer n) = held.Timer (pos (getD (a .timers) n 0))
 holds a (load.Register n) = held.Register (pos (getD (a .registers) n 0))
-holds a (load.Row n) = held.Row (record { x = getD (a .x) n (pos 0); y = getD (a .y) n (pos 0) })
+holds a (load.Row n) = held.Row (asRow (eachField (λ c. getD c n (pos 0)) (a .rows)))
 holds a (load.Input g) = held.Signal (pos (signalIn (a .inputs) (g .0)))
 holds a (load.InputPort p) = held.Port (pos (getD (a .inputs) (p .0) 0))
 holds a (load.Output g) = held.Signal (pos (signalIn (a .outputs) (g .0)))
@@ -67,7 +61,7 @@ holds a (load.MemoryPort p) = held.Port (pos (getD (a .memory) (p .0) 0))
 unfoldable pub replaced : Arm → Store → Arm
 replaced a (store.Timer n v) = withTimers a (set (a .timers) n (natAbs v))
 replaced a (store.Register n v) = withRegisters a (set (a .registers) n (natAbs v))
-replaced a (store.Row n r) = withRows a (set (a .x) n (r .x)) (set (a .y) n (r .y))
+replaced a (store.Row n r) = withRows a (eachWith (λ c v. set c n v) (a .rows) r)
 replaced a (store.Output g v) = withOutputs a (withSignal (a .outputs) (g .0) (natAbs v))
 replaced a (store.OutputPort p v) = withOutputs a (set (a .outputs) (p .0) (natAbs v))
 replaced a (store.MemoryBit g v) = withMemory a (withSignal (a .memory) (g .0 - 256) (natAbs v))

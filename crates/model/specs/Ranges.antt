@@ -6,8 +6,8 @@ use mathlib.Core.List.{List, [], _∷_}
 use lib.Dec.{leb}
 use lib.IntN.{pos}
 use Rattle.commands.specs.declared.command.Kind.the-variants as kind
-use Rattle.harl.specs.Data.{inRange}
-use Rattle.tables.specs.Tables.{Tables, at2, atz2}
+use Rattle.data.specs.Ranges.{inRange}
+use Rattle.tables.specs.Tables.{Tables, EachField, at2, atz2}
 use Rattle.model.specs.Call.{Call, serve, input}
 use Rattle.model.specs.Box.{setup, run}
 
@@ -15,8 +15,7 @@ use Rattle.model.specs.Box.{setup, run}
 pub record InRange (t : Tables) : Type 0 where
   pub timers : (k n : ℕ) → inRange kind.Timer (pos (at2 (t .timers) k n)) ≡ true
   pub registers : (k n : ℕ) → inRange kind.Register (pos (at2 (t .registers) k n)) ≡ true
-  pub x : (k n : ℕ) → inRange kind.Row (atz2 (t .x) k n) ≡ true
-  pub y : (k n : ℕ) → inRange kind.Row (atz2 (t .y) k n) ≡ true
+  pub rows : EachField (λ c. (k n : ℕ) → inRange kind.Row (atz2 c k n) ≡ true) (t .rows)
   pub inputs : (k n : ℕ) → inRange kind.Port (pos (at2 (t .inputs) k n)) ≡ true
   pub outputs : (k n : ℕ) → inRange kind.Port (pos (at2 (t .outputs) k n)) ≡ true
   pub memory : (k n : ℕ) → inRange kind.Port (pos (at2 (t .memory) k n)) ≡ true

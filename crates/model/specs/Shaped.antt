@@ -3,7 +3,7 @@ use Prim.Native.Nat.{ℕ, _<_}
 use mathlib.Core.Path.{_≡_}
 use mathlib.Core.List.{List, []}
 use lib.ListN.{length, getD}
-use Rattle.tables.specs.Tables.{Tables}
+use Rattle.tables.specs.Tables.{Tables, EachField}
 use Rattle.model.specs.Call.{Call}
 use Rattle.model.specs.Box.{setup, run}
 
@@ -15,8 +15,7 @@ pub record Rows {A : Type 0} (n : ℕ) (t : List (List A)) : Type 0 where
 pub record Shaped (t : Tables) : Type 0 where
   pub timers : Rows 16 (t .timers)
   pub registers : Rows 64 (t .registers)
-  pub x : Rows 100 (t .x)
-  pub y : Rows 100 (t .y)
+  pub rows : EachField (Rows 100) (t .rows)
   pub inputs : Rows 32 (t .inputs)
   pub outputs : Rows 32 (t .outputs)
   pub memory : Rows 16 (t .memory)

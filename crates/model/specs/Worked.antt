@@ -1,22 +1,28 @@
--- The examples of document 01 that are marked P: what is asked of the definitions, and what they must give.
+-- The examples of document 01 that are marked P, and the longest messages: what is asked of the definitions, and what
+-- they must give.
 -- Bytes are written as the document prints them, in hexadecimal.
 use Prim.Native.Nat.{ℕ}
 use mathlib.Core.Path.{_≡_}
 use mathlib.Core.Bool.{true}
 use mathlib.Core.List.{List, [], _∷_, map}
 use lib.IntN.{ℤ, pos, negℤ}
+use lib.ListN.{replicate}
 use Rattle.text.specs.declared.hundredths.Hundredths.{Hundredths}
 use Rattle.text.specs.declared.hundredths.Hundredths.the-variants.{Value, Malformed}
 use Rattle.text.specs.Hundredths.{readHundredths, hundredthsText}
 use Rattle.frame.specs.Checksum.{lrcOf}
 use Rattle.frame.specs.Frame.{frameOf}
-use Rattle.commands.specs.declared.request.Store.the-variants.{Register}
+use Rattle.commands.specs.declared.request.Row.{Row as Fields}
+use Rattle.commands.specs.declared.request.Load.the-variants as load
+use Rattle.commands.specs.declared.request.Store.the-variants.{Register, Row}
 use Rattle.commands.specs.declared.request.Request.{Request}
-use Rattle.commands.specs.declared.request.Request.the-variants.{Store}
+use Rattle.commands.specs.declared.request.Request.the-variants.{Load, Store}
+use Rattle.commands.specs.Request.{rowOf}
 use Rattle.harl.specs.declared.body.Judged.{Judged}
 use Rattle.harl.specs.declared.body.Judged.the-variants.{Refused}
 use Rattle.harl.specs.declared.reply.Outcome.{Outcome}
-use Rattle.harl.specs.declared.reply.Outcome.the-variants.{Status}
+use Rattle.harl.specs.declared.reply.Data.the-variants as held
+use Rattle.harl.specs.declared.reply.Outcome.the-variants.{Data, Status}
 use Rattle.harl.specs.Body.{readBody}
 use Rattle.harl.specs.Message.{writeRequest, writeReply}
 use Rattle.tables.specs.Place.{placeOf}
@@ -67,6 +73,10 @@ resultOf (serving slice) =
 resultOf (judging body) = verdict (readBody body)
 resultOf (placing first n) = place (placeOf first n .port) (placeOf first n .bit)
 
+-- a row of the longest values
+abbrev pub longest : Fields
+longest = rowOf (replicate 4 (negℤ (pos 999999)))
+
 -- each question with the result that the document gives
 unfoldable pub worked : List (Question × Result)
 worked =
@@ -90,8 +100,8 @@ worked =
     ∷ (reading (0x2D ∷ 0x39 ∷ 0x39 ∷ 0x39 ∷ 0x39 ∷ 0x2E ∷ 0x39 ∷ 0x39 ∷ []), amount (Value (negℤ (pos 999999))))
     -- P7: "10000"
     ∷ (reading (0x31 ∷ 0x30 ∷ 0x30 ∷ 0x30 ∷ 0x30 ∷ []), amount Malformed)
-    -- P7 as an offset, "SNL 0 10000 0": SHAPE of an SN
-    ∷ (judging (0x53 ∷ 0x4E ∷ 0x4C ∷ 0x20 ∷ 0x30 ∷ 0x20 ∷ 0x31 ∷ 0x30 ∷ 0x30 ∷ 0x30 ∷ 0x30 ∷ 0x20 ∷ 0x30 ∷ []), verdict (Refused 10 true))
+    -- P7 as an offset, "SNL 0 10000 0 0 0": SHAPE of an SN
+    ∷ (judging (0x53 ∷ 0x4E ∷ 0x4C ∷ 0x20 ∷ 0x30 ∷ 0x20 ∷ 0x31 ∷ 0x30 ∷ 0x30 ∷ 0x30 ∷ 0x30 ∷ 0x20 ∷ 0x30 ∷ 0x20 ∷ 0x30 ∷ 0x20 ∷ 0x30 ∷ []), verdict (Refused 10 true))
     -- P8: "SNT 0 10.00": VALUE of an SN
     ∷ (judging (0x53 ∷ 0x4E ∷ 0x54 ∷ 0x20 ∷ 0x30 ∷ 0x20 ∷ 0x31 ∷ 0x30 ∷ 0x2E ∷ 0x30 ∷ 0x30 ∷ []), verdict (Refused 12 true))
     -- P9: "SNT 0 -0.01"
@@ -102,6 +112,9 @@ worked =
     ∷ (placing 256 272, place 2 0)
     -- P12: "0.05"
     ∷ (writing (pos 5), bytes (0x30 ∷ 0x2E ∷ 0x30 ∷ 0x35 ∷ []))
+    -- document 02, E6: the longest request, of 48 bytes, and the longest reply, of 41
+    ∷ (requesting 99 (Store (Row 99 longest)), sent 0 (0x02 ∷ 0x39 ∷ 0x39 ∷ 0x20 ∷ 0x53 ∷ 0x4E ∷ 0x4C ∷ 0x20 ∷ 0x39 ∷ 0x39 ∷ 0x20 ∷ 0x2D ∷ 0x39 ∷ 0x39 ∷ 0x39 ∷ 0x39 ∷ 0x2E ∷ 0x39 ∷ 0x39 ∷ 0x20 ∷ 0x2D ∷ 0x39 ∷ 0x39 ∷ 0x39 ∷ 0x39 ∷ 0x2E ∷ 0x39 ∷ 0x39 ∷ 0x20 ∷ 0x2D ∷ 0x39 ∷ 0x39 ∷ 0x39 ∷ 0x39 ∷ 0x2E ∷ 0x39 ∷ 0x39 ∷ 0x20 ∷ 0x2D ∷ 0x39 ∷ 0x39 ∷ 0x39 ∷ 0x39 ∷ 0x2E ∷ 0x39 ∷ 0x39 ∷ 0x03 ∷ 0x52 ∷ []))
+    ∷ (replying 99 (Load (load.Row 99)) (Data (held.Row longest)), sent 0 (0x02 ∷ 0x39 ∷ 0x39 ∷ 0x20 ∷ 0x2D ∷ 0x39 ∷ 0x39 ∷ 0x39 ∷ 0x39 ∷ 0x2E ∷ 0x39 ∷ 0x39 ∷ 0x20 ∷ 0x2D ∷ 0x39 ∷ 0x39 ∷ 0x39 ∷ 0x39 ∷ 0x2E ∷ 0x39 ∷ 0x39 ∷ 0x20 ∷ 0x2D ∷ 0x39 ∷ 0x39 ∷ 0x39 ∷ 0x39 ∷ 0x2E ∷ 0x39 ∷ 0x39 ∷ 0x20 ∷ 0x2D ∷ 0x39 ∷ 0x39 ∷ 0x39 ∷ 0x39 ∷ 0x2E ∷ 0x39 ∷ 0x39 ∷ 0x03 ∷ 0x03 ∷ []))
     ∷ []
 
 -- every question has the result that the document says

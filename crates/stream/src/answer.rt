@@ -16,6 +16,8 @@ fn answer_call(
     registers: &mut [[u16; 64]; 4],
     x: &mut [[i32; 100]; 4],
     y: &mut [[i32; 100]; 4],
+    z: &mut [[i32; 100]; 4],
+    w: &mut [[i32; 100]; 4],
     inputs: &mut [[u8; 32]; 4],
     outputs: &mut [[u8; 32]; 4],
     memory: &mut [[u8; 16]; 4],
@@ -25,7 +27,7 @@ fn answer_call(
     at: usize,
 ) -> usize
     requires { ⌜ at + 132 ≤ length (now out) ⌝ }
-    ensures { λ r. ⌜ CallAnswered (box (now (stations .entry)) (tables (now (timers .entry)) (now (registers .entry)) (now (x .entry)) (now (y .entry)) (now (inputs .entry)) (now (outputs .entry)) (now (memory .entry)))) (now (slice .entry)) (now (out .entry)) at r (now (out .exit)) (tables (now (timers .exit)) (now (registers .exit)) (now (x .exit)) (now (y .exit)) (now (inputs .exit)) (now (outputs .exit)) (now (memory .exit))) ⌝ }
+    ensures { λ r. ⌜ CallAnswered (box (now (stations .entry)) (tables (now (timers .entry)) (now (registers .entry)) (now (x .entry)) (now (y .entry)) (now (z .entry)) (now (w .entry)) (now (inputs .entry)) (now (outputs .entry)) (now (memory .entry)))) (now (slice .entry)) (now (out .entry)) at r (now (out .exit)) (tables (now (timers .exit)) (now (registers .exit)) (now (x .exit)) (now (y .exit)) (now (z .exit)) (now (w .exit)) (now (inputs .exit)) (now (outputs .exit)) (now (memory .exit))) ⌝ }
 {
     let mut reply = [0u8; 64];
     let sent = serve(
@@ -33,6 +35,8 @@ fn answer_call(
         registers,
         x,
         y,
+        z,
+        w,
         inputs,
         outputs,
         memory,
@@ -51,6 +55,8 @@ pub fn answer_line(
     registers: &mut [[u16; 64]; 4],
     x: &mut [[i32; 100]; 4],
     y: &mut [[i32; 100]; 4],
+    z: &mut [[i32; 100]; 4],
+    w: &mut [[i32; 100]; 4],
     inputs: &mut [[u8; 32]; 4],
     outputs: &mut [[u8; 32]; 4],
     memory: &mut [[u8; 16]; 4],
@@ -60,7 +66,7 @@ pub fn answer_line(
     at: usize,
 ) -> usize
     requires { ⌜ at + 132 ≤ length (now out) ⌝ }
-    ensures { λ r. ⌜ LineAnswered (box (now (stations .entry)) (tables (now (timers .entry)) (now (registers .entry)) (now (x .entry)) (now (y .entry)) (now (inputs .entry)) (now (outputs .entry)) (now (memory .entry)))) (now (line .entry)) (now (out .entry)) at r (now (out .exit)) (tables (now (timers .exit)) (now (registers .exit)) (now (x .exit)) (now (y .exit)) (now (inputs .exit)) (now (outputs .exit)) (now (memory .exit))) ⌝ }
+    ensures { λ r. ⌜ LineAnswered (box (now (stations .entry)) (tables (now (timers .entry)) (now (registers .entry)) (now (x .entry)) (now (y .entry)) (now (z .entry)) (now (w .entry)) (now (inputs .entry)) (now (outputs .entry)) (now (memory .entry)))) (now (line .entry)) (now (out .entry)) at r (now (out .exit)) (tables (now (timers .exit)) (now (registers .exit)) (now (x .exit)) (now (y .exit)) (now (z .exit)) (now (w .exit)) (now (inputs .exit)) (now (outputs .exit)) (now (memory .exit))) ⌝ }
 {
     let mut slice = [0u8; 256];
     let what = read_line(line, &mut slice);
@@ -70,6 +76,8 @@ pub fn answer_line(
             registers,
             x,
             y,
+            z,
+            w,
             inputs,
             outputs,
             memory,

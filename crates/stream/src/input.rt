@@ -36,6 +36,8 @@ fn end_line(
     registers: &mut [[u16; 64]; 4],
     x: &mut [[i32; 100]; 4],
     y: &mut [[i32; 100]; 4],
+    z: &mut [[i32; 100]; 4],
+    w: &mut [[i32; 100]; 4],
     inputs: &mut [[u8; 32]; 4],
     outputs: &mut [[u8; 32]; 4],
     memory: &mut [[u8; 16]; 4],
@@ -46,7 +48,7 @@ fn end_line(
 ) -> Progress
     requires { ⌜ Within (now held) (now out) start ⌝ }
     requires { ⌜ start .waiting + 132 ≤ 65536 ⌝ }
-    ensures { λ r. ⌜ cellOf (now (stations .entry)) (tables (now (timers .exit)) (now (registers .exit)) (now (x .exit)) (now (y .exit)) (now (inputs .exit)) (now (outputs .exit)) (now (memory .exit))) (now (held .exit)) (now (out .exit)) r ≡ ended (cellOf (now (stations .entry)) (tables (now (timers .entry)) (now (registers .entry)) (now (x .entry)) (now (y .entry)) (now (inputs .entry)) (now (outputs .entry)) (now (memory .entry))) (now (held .entry)) (now (out .entry)) start) ⌝ }
+    ensures { λ r. ⌜ cellOf (now (stations .entry)) (tables (now (timers .exit)) (now (registers .exit)) (now (x .exit)) (now (y .exit)) (now (z .exit)) (now (w .exit)) (now (inputs .exit)) (now (outputs .exit)) (now (memory .exit))) (now (held .exit)) (now (out .exit)) r ≡ ended (cellOf (now (stations .entry)) (tables (now (timers .entry)) (now (registers .entry)) (now (x .entry)) (now (y .entry)) (now (z .entry)) (now (w .entry)) (now (inputs .entry)) (now (outputs .entry)) (now (memory .entry))) (now (held .entry)) (now (out .entry)) start) ⌝ }
     ensures { λ r. ⌜ Within (now (held .exit)) (now (out .exit)) r ⌝ }
 {
     let n = start.held;
@@ -56,6 +58,8 @@ fn end_line(
         registers,
         x,
         y,
+        z,
+        w,
         inputs,
         outputs,
         memory,
@@ -76,6 +80,8 @@ fn take_line(
     registers: &mut [[u16; 64]; 4],
     x: &mut [[i32; 100]; 4],
     y: &mut [[i32; 100]; 4],
+    z: &mut [[i32; 100]; 4],
+    w: &mut [[i32; 100]; 4],
     inputs: &mut [[u8; 32]; 4],
     outputs: &mut [[u8; 32]; 4],
     memory: &mut [[u8; 16]; 4],
@@ -87,7 +93,7 @@ fn take_line(
 ) -> Part
     requires { ⌜ Within (now held) (now out) start ⌝ }
     requires { ⌜ start .waiting + 132 ≤ 65536 ⌝ }
-    ensures { λ r. ⌜ Took (cellOf (now (stations .entry)) (tables (now (timers .entry)) (now (registers .entry)) (now (x .entry)) (now (y .entry)) (now (inputs .entry)) (now (outputs .entry)) (now (memory .entry))) (now (held .entry)) (now (out .entry)) start) (now (input .entry)) (r .taken) (cellOf (now (stations .entry)) (tables (now (timers .exit)) (now (registers .exit)) (now (x .exit)) (now (y .exit)) (now (inputs .exit)) (now (outputs .exit)) (now (memory .exit))) (now (held .exit)) (now (out .exit)) (r .state)) ⌝ }
+    ensures { λ r. ⌜ Took (cellOf (now (stations .entry)) (tables (now (timers .entry)) (now (registers .entry)) (now (x .entry)) (now (y .entry)) (now (z .entry)) (now (w .entry)) (now (inputs .entry)) (now (outputs .entry)) (now (memory .entry))) (now (held .entry)) (now (out .entry)) start) (now (input .entry)) (r .taken) (cellOf (now (stations .entry)) (tables (now (timers .exit)) (now (registers .exit)) (now (x .exit)) (now (y .exit)) (now (z .exit)) (now (w .exit)) (now (inputs .exit)) (now (outputs .exit)) (now (memory .exit))) (now (held .exit)) (now (out .exit)) (r .state)) ⌝ }
     ensures { λ r. ⌜ Within (now (held .exit)) (now (out .exit)) (r .state) ⌝ }
     ensures { λ r. ⌜ (0 < length (now (input .entry)) → 0 < r .taken) ⌝ }
 {
@@ -108,6 +114,8 @@ fn take_line(
         registers,
         x,
         y,
+        z,
+        w,
         inputs,
         outputs,
         memory,
@@ -128,6 +136,8 @@ pub fn take_block(
     registers: &mut [[u16; 64]; 4],
     x: &mut [[i32; 100]; 4],
     y: &mut [[i32; 100]; 4],
+    z: &mut [[i32; 100]; 4],
+    w: &mut [[i32; 100]; 4],
     inputs: &mut [[u8; 32]; 4],
     outputs: &mut [[u8; 32]; 4],
     memory: &mut [[u8; 16]; 4],
@@ -138,7 +148,7 @@ pub fn take_block(
     start: Progress,
 ) -> Part
     requires { ⌜ Within (now held) (now out) start ⌝ }
-    ensures { λ r. ⌜ Took (cellOf (now (stations .entry)) (tables (now (timers .entry)) (now (registers .entry)) (now (x .entry)) (now (y .entry)) (now (inputs .entry)) (now (outputs .entry)) (now (memory .entry))) (now (held .entry)) (now (out .entry)) start) (now (input .entry)) (r .taken) (cellOf (now (stations .entry)) (tables (now (timers .exit)) (now (registers .exit)) (now (x .exit)) (now (y .exit)) (now (inputs .exit)) (now (outputs .exit)) (now (memory .exit))) (now (held .exit)) (now (out .exit)) (r .state)) ⌝ }
+    ensures { λ r. ⌜ Took (cellOf (now (stations .entry)) (tables (now (timers .entry)) (now (registers .entry)) (now (x .entry)) (now (y .entry)) (now (z .entry)) (now (w .entry)) (now (inputs .entry)) (now (outputs .entry)) (now (memory .entry))) (now (held .entry)) (now (out .entry)) start) (now (input .entry)) (r .taken) (cellOf (now (stations .entry)) (tables (now (timers .exit)) (now (registers .exit)) (now (x .exit)) (now (y .exit)) (now (z .exit)) (now (w .exit)) (now (inputs .exit)) (now (outputs .exit)) (now (memory .exit))) (now (held .exit)) (now (out .exit)) (r .state)) ⌝ }
     ensures { λ r. ⌜ (r .taken ≡ length (now (input .entry))) ⊎ (65404 < r .state .waiting) ⌝ }
     ensures { λ r. ⌜ Within (now (held .exit)) (now (out .exit)) (r .state) ⌝ }
 {
@@ -150,6 +160,8 @@ pub fn take_block(
             registers,
             x,
             y,
+            z,
+            w,
             inputs,
             outputs,
             memory,
@@ -174,6 +186,8 @@ pub fn answer_last(
     registers: &mut [[u16; 64]; 4],
     x: &mut [[i32; 100]; 4],
     y: &mut [[i32; 100]; 4],
+    z: &mut [[i32; 100]; 4],
+    w: &mut [[i32; 100]; 4],
     inputs: &mut [[u8; 32]; 4],
     outputs: &mut [[u8; 32]; 4],
     memory: &mut [[u8; 16]; 4],
@@ -184,7 +198,7 @@ pub fn answer_last(
 ) -> Progress
     requires { ⌜ Within (now held) (now out) start ⌝ }
     requires { ⌜ start .waiting + 132 ≤ 65536 ⌝ }
-    ensures { λ r. ⌜ cellOf (now (stations .entry)) (tables (now (timers .exit)) (now (registers .exit)) (now (x .exit)) (now (y .exit)) (now (inputs .exit)) (now (outputs .exit)) (now (memory .exit))) (now (held .exit)) (now (out .exit)) r ≡ finished (cellOf (now (stations .entry)) (tables (now (timers .entry)) (now (registers .entry)) (now (x .entry)) (now (y .entry)) (now (inputs .entry)) (now (outputs .entry)) (now (memory .entry))) (now (held .entry)) (now (out .entry)) start) ⌝ }
+    ensures { λ r. ⌜ cellOf (now (stations .entry)) (tables (now (timers .exit)) (now (registers .exit)) (now (x .exit)) (now (y .exit)) (now (z .exit)) (now (w .exit)) (now (inputs .exit)) (now (outputs .exit)) (now (memory .exit))) (now (held .exit)) (now (out .exit)) r ≡ finished (cellOf (now (stations .entry)) (tables (now (timers .entry)) (now (registers .entry)) (now (x .entry)) (now (y .entry)) (now (z .entry)) (now (w .entry)) (now (inputs .entry)) (now (outputs .entry)) (now (memory .entry))) (now (held .entry)) (now (out .entry)) start) ⌝ }
     ensures { λ r. ⌜ Within (now (held .exit)) (now (out .exit)) r ⌝ }
 {
     if start.held == 0 {
@@ -195,6 +209,8 @@ pub fn answer_last(
         registers,
         x,
         y,
+        z,
+        w,
         inputs,
         outputs,
         memory,

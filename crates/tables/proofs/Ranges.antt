@@ -15,8 +15,8 @@ use Rattle.commands.specs.declared.request.Store.{Store}
 use Rattle.commands.specs.declared.request.Store.the-variants as store
 use Rattle.commands.specs.Command.{timers, registers, rows, signals, ports, memoryBits, memoryPorts}
 use Rattle.commands.specs.Request.{one}
-use Rattle.harl.specs.Data.{limitsOf, allInRange, judge}
-use Rattle.harl.proofs.Ranges.{passed, in-size, all-x}
+use Rattle.data.specs.Ranges.{limitsOf, allInRange, judge}
+use Rattle.data.proofs.Bounds.{passed, in-size, all-x}
 use Rattle.harl.proofs.Accepted.{bare}
 use Rattle.tables.specs.Tables.{readBy, LoadInRange, StoreInRange}
 

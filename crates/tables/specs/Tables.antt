@@ -19,38 +19,69 @@ use Rattle.harl.specs.Message.{judgeRequest}
 use Rattle.tables.specs.Bits.{bit, withBit}
 use Rattle.tables.specs.Place.{placeOf}
 
+-- something of each field of a row
+pub record PerField (A : Type 0) : Type 0 where
+  pub x : A
+  pub y : A
+  pub z : A
+  pub w : A
+
+abbrev pub columns : {A : Type 0} → A → A → A → A → PerField A
+columns x y z w = record { x = x; y = y; z = z; w = w }
+
+-- a function applied to each
+abbrev pub eachField : {A B : Type 0} → (A → B) → PerField A → PerField B
+eachField f c = columns (f (c .x)) (f (c .y)) (f (c .z)) (f (c .w))
+
+-- and to each with its field of a row
+abbrev pub eachWith : {A B : Type 0} → (A → ℤ → B) → PerField A → Row → PerField B
+eachWith f c r = columns (f (c .x) (r .x)) (f (c .y) (r .y)) (f (c .z) (r .z)) (f (c .w) (r .w))
+
+-- what holds of each
+pub record EachField {A : Type 0} (P : A → Type 0) (c : PerField A) : Type 0 where
+  pub x : P (c .x)
+  pub y : P (c .y)
+  pub z : P (c .z)
+  pub w : P (c .w)
+
+-- four values as a row
+abbrev pub asRow : PerField ℤ → Row
+asRow c = record { x = c .x; y = c .y; z = c .z; w = c .w }
+
 -- something of each kind of item: N for whole numbers, Z for offsets
 pub record PerKind (N Z : Type 0) : Type 0 where
   pub timers : N
   pub registers : N
-  pub x : Z
-  pub y : Z
+  pub rows : PerField Z
   pub inputs : N
   pub outputs : N
   pub memory : N
 
-abbrev pub tables : {N Z : Type 0} → N → N → Z → Z → N → N → N → PerKind N Z
-tables t r x y i o m =
-    record { timers = t; registers = r; x = x; y = y; inputs = i; outputs = o; memory = m }
+abbrev pub perKind : {N Z : Type 0} → N → N → PerField Z → N → N → N → PerKind N Z
+perKind t r c i o m = record { timers = t; registers = r; rows = c; inputs = i; outputs = o; memory = m }
+
+-- in the order in which the tables are lent
+abbrev pub tables : {N Z : Type 0} → N → N → Z → Z → Z → Z → N → N → N → PerKind N Z
+tables t r x y z w i o m = perKind t r (columns x y z w) i o m
 
 -- one of them replaced
 abbrev pub withTimers : {N Z : Type 0} → PerKind N Z → N → PerKind N Z
-withTimers t l = tables l (t .registers) (t .x) (t .y) (t .inputs) (t .outputs) (t .memory)
+withTimers t l = perKind l (t .registers) (t .rows) (t .inputs) (t .outputs) (t .memory)
 
 abbrev pub withRegisters : {N Z : Type 0} → PerKind N Z → N → PerKind N Z
-withRegisters t l = tables (t .timers) l (t .x) (t .y) (t .inputs) (t .outputs) (t .memory)
+withRegisters t l = perKind (t .timers) l (t .rows) (t .inputs) (t .outputs) (t .memory)
 
-abbrev pub withRows : {N Z : Type 0} → PerKind N Z → Z → Z → PerKind N Z
-withRows t lx ly = tables (t .timers) (t .registers) lx ly (t .inputs) (t .outputs) (t .memory)
+abbrev pub withRows : {N Z : Type 0} → PerKind N Z → PerField Z → PerKind N Z
+withRows t l = perKind (t .timers) (t .registers) l (t .inputs) (t .outputs) (t .memory)
 
 abbrev pub withInputs : {N Z : Type 0} → PerKind N Z → N → PerKind N Z
-withInputs t l = tables (t .timers) (t .registers) (t .x) (t .y) l (t .outputs) (t .memory)
+withInputs t l = perKind (t .timers) (t .registers) (t .rows) l (t .outputs) (t .memory)
 
 abbrev pub withOutputs : {N Z : Type 0} → PerKind N Z → N → PerKind N Z
-withOutputs t l = tables (t .timers) (t .registers) (t .x) (t .y) (t .inputs) l (t .memory)
+withOutputs t l = perKind (t .timers) (t .registers) (t .rows) (t .inputs) l (t .memory)
 
 abbrev pub withMemory : {N Z : Type 0} → PerKind N Z → N → PerKind N Z
-withMemory t l = tables (t .timers) (t .registers) (t .x) (t .y) (t .inputs) (t .outputs) l
+withMemory t l = perKind (t .timers) (t .registers) (t .rows) (t .inputs) (t .outputs) l
 
 -- one table for each kind: a list of rows, one for each slot
 abbrev pub Tables : Type 0
@@ -62,6 +93,10 @@ at2 t s n = getD (getD t s []) n 0
 
 abbrev pub atz2 : List (List ℤ) → ℕ → ℕ → ℤ
 atz2 t s n = getD (getD t s []) n (pos 0)
+
+-- row n of slot s
+abbrev pub rowAt : ℕ → ℕ → PerField (List (List ℤ)) → Row
+rowAt s n c = asRow (eachField (λ t. atz2 t s n) c)
 
 -- the table with v under n of slot s, all else as it was
 abbrev pub set2 : {A : Type 0} → List (List A) → ℕ → ℕ → A → List (List A)
@@ -79,7 +114,7 @@ setSignal2 first t s n v = set2 t s (placeOf first n .port) (withBit (at2 t s (p
 unfoldable pub loaded : ℕ → Load → Tables → Data
 loaded s (load.Timer n) t = held.Timer (pos (at2 (t .timers) s n))
 loaded s (load.Register n) t = held.Register (pos (at2 (t .registers) s n))
-loaded s (load.Row n) t = held.Row (record { x = atz2 (t .x) s n; y = atz2 (t .y) s n })
+loaded s (load.Row n) t = held.Row (rowAt s n (t .rows))
 loaded s (load.Input g) t = held.Signal (pos (signal2 0 (t .inputs) s (g .0)))
 loaded s (load.InputPort p) t = held.Port (pos (at2 (t .inputs) s (p .0)))
 loaded s (load.Output g) t = held.Signal (pos (signal2 0 (t .outputs) s (g .0)))
@@ -91,7 +126,7 @@ loaded s (load.MemoryPort p) t = held.Port (pos (at2 (t .memory) s (p .0)))
 unfoldable pub stored : ℕ → Store → Tables → Tables
 stored s (store.Timer n v) t = withTimers t (set2 (t .timers) s n (natAbs v))
 stored s (store.Register n v) t = withRegisters t (set2 (t .registers) s n (natAbs v))
-stored s (store.Row n r) t = withRows t (set2 (t .x) s n (r .x)) (set2 (t .y) s n (r .y))
+stored s (store.Row n r) t = withRows t (eachWith (λ c v. set2 c s n v) (t .rows) r)
 stored s (store.Output g v) t = withOutputs t (setSignal2 0 (t .outputs) s (g .0) (natAbs v))
 stored s (store.OutputPort p v) t = withOutputs t (set2 (t .outputs) s (p .0) (natAbs v))
 stored s (store.MemoryBit g v) t = withMemory t (setSignal2 256 (t .memory) s (g .0) (natAbs v))
@@ -111,6 +146,7 @@ readBy (store.MemoryPort p v) = load.MemoryPort p
 unfoldable pub zeros : Tables
 zeros =
     tables (replicate 4 (replicate 16 0)) (replicate 4 (replicate 64 0))
+    (replicate 4 (replicate 100 (pos 0))) (replicate 4 (replicate 100 (pos 0)))
     (replicate 4 (replicate 100 (pos 0))) (replicate 4 (replicate 100 (pos 0)))
     (replicate 4 (replicate 32 0)) (replicate 4 (replicate 32 0)) (replicate 4 (replicate 16 0))
 

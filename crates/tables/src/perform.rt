@@ -20,7 +20,7 @@ ghost use lib.ListN.{length, getD, set};
 ghost use lib.IntN.{natAbs, pos};
 ghost use Rattle.harl.specs.declared.reply.Data.the-variants as held;
 ghost use Rattle.harl.specs.Message.{judgeRequest};
-ghost use Rattle.tables.specs.Tables.{Tables, tables, atz2, set2, loaded, stored, LoadInRange, StoreInRange, Performed};
+ghost use Rattle.tables.specs.Tables.{Tables, columns, rowAt, tables, set2, loaded, stored, LoadInRange, StoreInRange, Performed};
 
 // The value of a timer or a register.
 fn load_word(words: &[u16], n: u16) -> i32
@@ -30,15 +30,24 @@ fn load_word(words: &[u16], n: u16) -> i32
     words[n as usize] as i32
 }
 
-// X and Y of a row.
-fn load_row(x: &[[i32; 100]; 4], y: &[[i32; 100]; 4], slot: usize, n: u16) -> Data
+// The fields of a row.
+fn load_row(
+    x: &[[i32; 100]; 4],
+    y: &[[i32; 100]; 4],
+    z: &[[i32; 100]; 4],
+    w: &[[i32; 100]; 4],
+    slot: usize,
+    n: u16,
+) -> Data
     requires { ⌜ (slot < 4) × (n < 100) ⌝ }
-    ensures { λ r. ⌜ r ≡ held.Row (record { x = atz2 (now (x .entry)) slot n; y = atz2 (now (y .entry)) slot n }) ⌝ }
+    ensures { λ r. ⌜ r ≡ held.Row (rowAt slot n (columns (now (x .entry)) (now (y .entry)) (now (z .entry)) (now (w .entry)))) ⌝ }
 {
     let i = n as usize;
     Data::Row(Row {
         x: x[slot][i],
         y: y[slot][i],
+        z: z[slot][i],
+        w: w[slot][i],
     })
 }
 
@@ -48,6 +57,8 @@ fn run_load(
     registers: &[[u16; 64]; 4],
     x: &[[i32; 100]; 4],
     y: &[[i32; 100]; 4],
+    z: &[[i32; 100]; 4],
+    w: &[[i32; 100]; 4],
     inputs: &[[u8; 32]; 4],
     outputs: &[[u8; 32]; 4],
     memory: &[[u8; 16]; 4],
@@ -55,12 +66,12 @@ fn run_load(
     load: Load,
 ) -> Data
     requires { ⌜ (slot < 4) × LoadInRange load ⌝ }
-    ensures { λ r. ⌜ r ≡ loaded slot load (tables (now (timers .entry)) (now (registers .entry)) (now (x .entry)) (now (y .entry)) (now (inputs .entry)) (now (outputs .entry)) (now (memory .entry))) ⌝ }
+    ensures { λ r. ⌜ r ≡ loaded slot load (tables (now (timers .entry)) (now (registers .entry)) (now (x .entry)) (now (y .entry)) (now (z .entry)) (now (w .entry)) (now (inputs .entry)) (now (outputs .entry)) (now (memory .entry))) ⌝ }
 {
     match load {
         Load::Timer(n) => Data::Timer(load_word(&timers[slot][..], n)),
         Load::Register(n) => Data::Register(load_word(&registers[slot][..], n)),
-        Load::Row(n) => load_row(x, y, slot, n),
+        Load::Row(n) => load_row(x, y, z, w, slot, n),
         Load::Input(s) => load_signal(&inputs[slot][..], signal_place(s)),
         Load::InputPort(p) => load_port(&inputs[slot][..], p),
         Load::Output(s) => load_signal(&outputs[slot][..], signal_place(s)),
@@ -78,17 +89,31 @@ fn store_word(words: &mut [u16], n: u16, v: i32)
     words[n as usize] = unsigned_abs(v) as u16;
 }
 
-// Replaces X and Y of a row.
-fn store_row(x: &mut [[i32; 100]; 4], y: &mut [[i32; 100]; 4], slot: usize, n: u16, row: Row)
+// Replaces the fields of a row.
+fn store_row(
+    x: &mut [[i32; 100]; 4],
+    y: &mut [[i32; 100]; 4],
+    z: &mut [[i32; 100]; 4],
+    w: &mut [[i32; 100]; 4],
+    slot: usize,
+    n: u16,
+    row: Row,
+)
     requires { ⌜ (slot < 4) × (n < 100) ⌝ }
     ensures { λ _. ⌜ now (x .exit) ≡ set2 (now (x .entry)) slot n (row .x) ⌝ }
     ensures { λ _. ⌜ now (y .exit) ≡ set2 (now (y .entry)) slot n (row .y) ⌝ }
+    ensures { λ _. ⌜ now (z .exit) ≡ set2 (now (z .entry)) slot n (row .z) ⌝ }
+    ensures { λ _. ⌜ now (w .exit) ≡ set2 (now (w .entry)) slot n (row .w) ⌝ }
 {
     let i = n as usize;
     let a = row.x;
     let b = row.y;
+    let c = row.z;
+    let d = row.w;
     x[slot][i] = a;
     y[slot][i] = b;
+    z[slot][i] = c;
+    w[slot][i] = d;
 }
 
 // Replaces what slot's arm holds under the number of a store by its data.
@@ -97,6 +122,8 @@ fn run_store(
     registers: &mut [[u16; 64]; 4],
     x: &mut [[i32; 100]; 4],
     y: &mut [[i32; 100]; 4],
+    z: &mut [[i32; 100]; 4],
+    w: &mut [[i32; 100]; 4],
     inputs: &mut [[u8; 32]; 4],
     outputs: &mut [[u8; 32]; 4],
     memory: &mut [[u8; 16]; 4],
@@ -104,14 +131,14 @@ fn run_store(
     store: Store,
 )
     ghost { Tables }
-    requires { λ t. ⌜ tables (now timers) (now registers) (now x) (now y) (now inputs) (now outputs) (now memory) ≡ t ⌝ }
+    requires { λ t. ⌜ tables (now timers) (now registers) (now x) (now y) (now z) (now w) (now inputs) (now outputs) (now memory) ≡ t ⌝ }
     requires { λ t. ⌜ (slot < 4) × StoreInRange store ⌝ }
-    ensures { λ t _. ⌜ tables (now (timers .exit)) (now (registers .exit)) (now (x .exit)) (now (y .exit)) (now (inputs .exit)) (now (outputs .exit)) (now (memory .exit)) ≡ stored slot store t ⌝ }
+    ensures { λ t _. ⌜ tables (now (timers .exit)) (now (registers .exit)) (now (x .exit)) (now (y .exit)) (now (z .exit)) (now (w .exit)) (now (inputs .exit)) (now (outputs .exit)) (now (memory .exit)) ≡ stored slot store t ⌝ }
 {
     match store {
         Store::Timer(n, v) => store_word(&mut timers[slot][..], n, v),
         Store::Register(n, v) => store_word(&mut registers[slot][..], n, v),
-        Store::Row(n, row) => store_row(x, y, slot, n, row),
+        Store::Row(n, row) => store_row(x, y, z, w, slot, n, row),
         Store::Output(s, v) => store_signal(&mut outputs[slot][..], signal_place(s), v),
         Store::OutputPort(p, v) => store_port(&mut outputs[slot][..], p, v),
         Store::MemoryBit(s, v) => store_signal(&mut memory[slot][..], memory_place(s), v),
@@ -125,6 +152,8 @@ pub fn perform(
     registers: &mut [[u16; 64]; 4],
     x: &mut [[i32; 100]; 4],
     y: &mut [[i32; 100]; 4],
+    z: &mut [[i32; 100]; 4],
+    w: &mut [[i32; 100]; 4],
     inputs: &mut [[u8; 32]; 4],
     outputs: &mut [[u8; 32]; 4],
     memory: &mut [[u8; 16]; 4],
@@ -132,9 +161,9 @@ pub fn perform(
     request: Request,
 ) -> Outcome
     ghost { Tables }
-    requires { λ t. ⌜ tables (now timers) (now registers) (now x) (now y) (now inputs) (now outputs) (now memory) ≡ t ⌝ }
+    requires { λ t. ⌜ tables (now timers) (now registers) (now x) (now y) (now z) (now w) (now inputs) (now outputs) (now memory) ≡ t ⌝ }
     requires { λ t. ⌜ (slot < 4) × (judgeRequest request ≡ 0) ⌝ }
-    ensures { λ t r. ⌜ Performed slot request t (tables (now (timers .exit)) (now (registers .exit)) (now (x .exit)) (now (y .exit)) (now (inputs .exit)) (now (outputs .exit)) (now (memory .exit))) r ⌝ }
+    ensures { λ t r. ⌜ Performed slot request t (tables (now (timers .exit)) (now (registers .exit)) (now (x .exit)) (now (y .exit)) (now (z .exit)) (now (w .exit)) (now (inputs .exit)) (now (outputs .exit)) (now (memory .exit))) r ⌝ }
 {
     match request {
         Request::Load(load) => Outcome::Data(run_load(
@@ -142,6 +171,8 @@ pub fn perform(
             registers,
             x,
             y,
+            z,
+            w,
             inputs,
             outputs,
             memory,
@@ -154,6 +185,8 @@ pub fn perform(
                 registers,
                 x,
                 y,
+                z,
+                w,
                 inputs,
                 outputs,
                 memory,

@@ -1,14 +1,14 @@
--- The invariant: there are at most 14 trials. The measure: those left.
+-- The invariant: there are at most 24 trials. The measure: those left.
 use Prim.Native.Nat.{_≤_, _-_}
 use borrow.Author.Needs.{needs}
 use Rattle.examples_gateway.proofs.ranges.try_row.Statement.{statement}
 use Rattle.examples_gateway.proofs.ranges.try_row.Tie as tie
 
 abbrev Inv-loop : tie.InvT-loop
-Inv-loop t₀ d₀ x₀ y₀ i₀ o₀ m₀ s row n₀ n-end t d x y i o m n = n-end ≤ 14
+Inv-loop t₀ d₀ x₀ y₀ z₀ w₀ i₀ o₀ m₀ s row n₀ n-end t d x y z w i o m n = n-end ≤ 24
 
 abbrev μ-loop : tie.MeasureT-loop
-μ-loop t₀ d₀ x₀ y₀ i₀ o₀ m₀ s row n₀ n-end t d x y i o m n = n-end - n
+μ-loop t₀ d₀ x₀ y₀ z₀ w₀ i₀ o₀ m₀ s row n₀ n-end t d x y z w i o m n = n-end - n
 
 count-of-requires : tie.Need-count-of-requires Inv-loop μ-loop
 count-of-requires c κs = search needs

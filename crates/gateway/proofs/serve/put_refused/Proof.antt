@@ -37,7 +37,7 @@ returns c =
     let b = f .before .before .before .before in
     let o = b .before .before .before .before in
     let a = o .before .before .before .args in
-    let short : length (refusalText (a .n) (a .store)) ≤ 27 = omega (arith, refusal-length (a .n) (a .store)) in
+    let short : length (refusalText (a .n) (a .store)) ≤ 45 = omega (arith, refusal-length (a .n) (a .store)) in
     framed (a .station) (o .open-frame .ensures) (b .put-refusal .ensures) (f .close-frame .ensures)
     (omega (arith, frame-fits (a .station) (refusalText (a .n) (a .store)) short))
 

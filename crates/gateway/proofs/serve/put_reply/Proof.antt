@@ -38,7 +38,7 @@ returns c =
     let b = f .before .before .before .before in
     let o = b .before .before .before .before in
     let a = o .before .before .before .args in
-    let short : length (outcomeText true (a .outcome)) ≤ 27 = omega (arith, outcome-length true (a .outcome) .1) in
+    let short : length (outcomeText true (a .outcome)) ≤ 45 = omega (arith, outcome-length true (a .outcome) .1) in
     rw performed-text at
     (framed (a .station) (o .open-frame .ensures) (b .put-outcome .ensures) (f .close-frame .ensures)
     (omega (arith, frame-fits (a .station) (outcomeText true (a .outcome)) short)))

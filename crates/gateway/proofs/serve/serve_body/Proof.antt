@@ -23,7 +23,7 @@ use Rattle.gateway.proofs.serve.serve_body.Statement.{statement}
 use Rattle.gateway.proofs.serve.serve_body.Tie as tie
 
 -- what was put at the front of the area is the reply, and had room
-put-wrote : {n m : ℕ} {xs ys : List ℕ} (s : ℕ) (text : List ℕ) → length text ≤ 17 → 64 ≤ length xs → Put xs 0 (frameOf s text) m ys → Wrote (record { number = n; bytes = frameOf s text }) xs (record { number = n; length = m }) ys
+put-wrote : {n m : ℕ} {xs ys : List ℕ} (s : ℕ) (text : List ℕ) → length text ≤ 35 → 64 ≤ length xs → Put xs 0 (frameOf s text) m ys → Wrote (record { number = n; bytes = frameOf s text }) xs (record { number = n; length = m }) ys
 put-wrote s text short room w = wrote-all w (omega (arith, frame-fits s text (omega arith)))
 
 module _ {k s : ℕ} {body : List ℕ} {t : Tables} {xs ys : List ℕ} {m : ℕ} (room : 64 ≤ length xs) where

@@ -11,7 +11,7 @@ use Rattle.text.proofs.Laws.{put-none, put-then}
 use Rattle.commands.specs.declared.command.Rule.{Rule}
 use Rattle.commands.specs.declared.request.Parts.{Parts}
 use Rattle.commands.specs.Command.{nameOf, ruleOf}
-use Rattle.harl.specs.Data.{dataText}
+use Rattle.data.specs.Data.{dataText}
 use Rattle.harl.specs.Body.{bodyText}
 use Rattle.harl.proofs.Bodies.{body-parts}
 use Rattle.harl.proofs.body.put_body.Statement.{statement}

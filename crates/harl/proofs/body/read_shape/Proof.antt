@@ -12,21 +12,18 @@ use Rattle.frame.specs.Fields.{fields}
 use Rattle.text.proofs.Laws.{rest}
 use Rattle.frame.proofs.Laws.{fields-first, fields-only, fields-next}
 use Rattle.commands.specs.declared.command.Kind.{Kind}
-use Rattle.commands.specs.declared.command.Kind.the-variants as kind
 use Rattle.commands.specs.declared.command.Rule.{Rule}
-use Rattle.harl.specs.declared.data.Values.the-variants as values
+use Rattle.data.specs.declared.data.Values.the-variants as values
 use Rattle.harl.specs.declared.body.Shape.the-variants as shape
-use Rattle.harl.specs.Data.{readData}
+use Rattle.data.specs.Data.{readFields, readData}
+use Rattle.data.proofs.Bounds.{some-value}
 use Rattle.harl.specs.Body.{dataShape, numbered, readShape}
 use Rattle.harl.proofs.body.read_shape.Statement.{statement}
 use Rattle.harl.proofs.body.read_shape.Tie as tie
 
 no-data : (k : Kind) → readData k [] ≡ values.Malformed
-no-data kind.Timer = refl
-no-data kind.Register = refl
-no-data kind.Row = refl
-no-data kind.Signal = refl
-no-data kind.Port = refl
+unfolding readFields
+no-data k = rw (some-value k .1)
 
 module _ (rule : Rule) (s : List ℕ) (e : ℕ) (q : e ≡ 0 + before 32 s) where
   unread : readWhole (take e s) ≡ whole.Malformed → readShape rule (fields s) ≡ shape.Malformed

@@ -80,7 +80,7 @@ returns-4 c =
     let a = j .before .before .before .args in
     let rule = v .before .rule-of .result in
     let z : judgeOutcome rule (a .outcome) ≡ 0 = sym (v .judge-outcome .ensures) ∙ o .before .before .if3 .left in
-    let short : length (outcomeText (rule .store) (a .outcome)) ≤ 27 = omega (arith, outcome-length (rule .store) (a .outcome) .1) in
+    let short : length (outcomeText (rule .store) (a .outcome)) ≤ 45 = omega (arith, outcome-length (rule .store) (a .outcome) .1) in
     rw (le-ltb _ _ (j .before .if1 .left), ← j .judge-asked .ensures, eq-eqb _ _ (p .before .if2 .left), ← p .parts-of .ensures, ← v .before .rule-of .ensures, z)
     (let fits : length (frameOf (a .station) (outcomeText (rule .store) (a .outcome))) ≤ length (a .area .now) = omega (arith, frame-fits (a .station) (outcomeText (rule .store) (a .outcome)) short) in
     wrote-all (framed (a .station) (o .open-frame .ensures) (b .put-outcome .ensures) (f .close-frame .ensures) fits) fits)

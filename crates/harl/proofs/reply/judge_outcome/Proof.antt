@@ -5,7 +5,7 @@ use mathlib.Core.Bool.{cond, _&&_}
 use borrow.Author.Needs.{needs}
 use borrow.Author.Tests.{eq-eqb, ne-eqb, lt-ltb, le-ltb}
 use lib.Dec.{eqb}
-use Rattle.harl.specs.Data.{allInRange}
+use Rattle.data.specs.Ranges.{allInRange}
 use Rattle.harl.specs.Reply.{dataFit, judgeOutcome}
 use Rattle.harl.proofs.reply.judge_outcome.Statement.{statement}
 use Rattle.harl.proofs.reply.judge_outcome.Tie as tie

@@ -18,7 +18,7 @@ store-word-requires-2 c κs =
 
 store-row-requires : tie.Need-store-row-requires
 store-row-requires c κs =
-    let a = c .before .before .before in
+    let a = c .before .before .before .before .before in
     (a .before .before .pre .0, store-within (a .store3 .given .1) (a .before .before .pre .1) .0)
 
 signal-place-requires : tie.Need-signal-place-requires
@@ -67,7 +67,9 @@ returns-2 c =
 
 returns-3 : tie.Need-returns-3
 unfolding stored
-returns-3 c = rw (c .before .before .before .before .store3 .given .1, c .store-row .ensures .0, c .store-row .ensures .1)
+returns-3 c =
+    let e = c .store-row .ensures in
+    rw (c .before .before .before .before .before .before .store3 .given .1, e .0, e .1 .0, e .1 .1 .0, e .1 .1 .1)
 
 returns-4 : tie.Need-returns-4
 unfolding stored

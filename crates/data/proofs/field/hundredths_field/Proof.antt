@@ -1,0 +1,31 @@
+use mathlib.Core.Path.{sym, ap, _∙_}
+use borrow.Author.Needs.{needs}
+use mir.Facts.{toZ-ofZ}
+use mir.Syntax.{w32}
+use mir.Val.{SFits}
+use Rattle.data.specs.Data.{asHundredths}
+use Rattle.data.proofs.field.hundredths_field.Statement.{statement}
+use Rattle.data.proofs.field.hundredths_field.Tie as tie
+
+read-hundredths-requires : tie.Need-read-hundredths-requires
+read-hundredths-requires c κs = search needs
+
+enum-known-h : tie.Need-enum-known-h
+enum-known-h c = search needs
+
+enum-told : tie.Need-enum-told
+enum-told c = search needs
+
+returns : tie.Need-returns
+returns c =
+    let h = c .before in
+    let r = h .before .before in
+    let f : SFits w32 (h .h .given .0 .0) = record { sfits = c .known-told .given .0 .1 } in
+    rw (toZ-ofZ f) (ap asHundredths (sym (h .h .given .1) ∙ r .read-hundredths .ensures))
+
+returns-2 : tie.Need-returns-2
+returns-2 c = ap asHundredths (sym (c .enum-told .given .1) ∙ c .before .before .read-hundredths .ensures)
+
+pub hundredths-field-spec : {M : Type 1} → statement M
+hundredths-field-spec =
+    tie.close (tie.spec read-hundredths-requires enum-known-h enum-told returns returns-2)
