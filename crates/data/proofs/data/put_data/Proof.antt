@@ -140,12 +140,11 @@ loop-again c =
     let l = b .before .before .before in
     let n = l .before .before .before .before .before .before in
     let s = n .before .before .before in
-    let e = next (s .args .kind) (s .args .row) (n .before .fields-of .ensures) (n .count-of .ensures) (l .loop .i) (b .before .before .loop-test .taken) in
-    (
+    let e = next (s .args .kind) (s .args .row) (n .before .fields-of .ensures) (n .count-of .ensures) (l .loop .i) (b .before .before .loop-test .taken) in (
       omega arith,
       moved (32 ∷ fieldText (s .args .kind) (getD (n .before .fields-of .result) (l .loop .i) (pos 0))) (rw e at (l .loop .inv .1))
-      (put-then (b .put-byte .ensures) (rw (i32-back _ (f .before .put-field-arg4 .given)) at (f .put-field2 .ensures)))
-      (f .put-field2 .kept .0 ∙ b .put-byte .kept .0),
+          (put-then (b .put-byte .ensures) (rw (i32-back _ (f .before .put-field-arg4 .given)) at (f .put-field2 .ensures)))
+          (f .put-field2 .kept .0 ∙ b .put-byte .kept .0),
     )
 
 returns : tie.Need-returns Inv-loop μ-loop

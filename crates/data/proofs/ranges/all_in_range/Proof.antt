@@ -47,12 +47,11 @@ loop-again : tie.Need-loop-again Inv-loop μ-loop
 loop-again c =
     let b = c .before .before .before in
     let n = b .before .before in
-    let s = n .before .before in
-    (
+    let s = n .before .before in (
       omega arith,
       b .before .loop .inv .1
-      ∙ here (s .args .kind) (s .args .row) (n .before .fields-of .ensures) (n .count-of .ensures) (b .before .loop .i) (c .before .in-range .ensures) (c .before .before .in-range-arg .given) (b .loop-test .taken)
-      ∙ rw (c .if1 .taken),
+          ∙ here (s .args .kind) (s .args .row) (n .before .fields-of .ensures) (n .count-of .ensures) (b .before .loop .i) (c .before .in-range .ensures) (c .before .before .in-range-arg .given) (b .loop-test .taken)
+          ∙ rw (c .if1 .taken),
     )
 
 returns : tie.Need-returns Inv-loop μ-loop

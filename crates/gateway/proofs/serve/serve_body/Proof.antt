@@ -51,7 +51,7 @@ enum-known-judged c = search needs
 
 perform-requires : tie.Need-perform-requires
 perform-requires c κs =
-    let v = c .before .before .before .before .before .before .before .before in
+    let v = c .before .before .before .before .before .before .before .before .before .before in
     let b = v .before .before in
     let a = b .before .before .before in
     (a .pre .0, accepted-in-range (a .args .body .now) (v .judged .given .0 .0) (sym (b .read-body .ensures) ∙ v .judged .given .1))
@@ -72,7 +72,7 @@ returns : tie.Need-returns
 returns c =
     let w = c .before .before in
     let p = w .before .before in
-    let v = p .before .before .before .before .before .before .before .before .before in
+    let v = p .before .before .before .before .before .before .before .before .before .before .before in
     let b = v .before .before in
     asked-served (b .before .before .before .pre .1) (sym (b .read-body .ensures) ∙ v .judged .given .1) (p .perform .ensures) (w .put-reply .ensures)
 

@@ -12,14 +12,8 @@ use Rattle.gateway.proofs.setup.setup.Statement.{statement}
 use Rattle.gateway.proofs.setup.setup.Tie as tie
 
 -- where setup is accepted, a station fits a byte
-fits : (c : tie.Else1) (k : ℕ) → getD (c .before .before .before .before .before .before .before .before .before .before .args .t9) k 0 ≤ 99
+fits : (c : tie.Else1) (k : ℕ) → getD (c .before .before .before .before .before .before .before .before .before .before .before .before .args .t11) k 0 ≤ 99
 fits c k = accepted-small _ k (sym (c .before .judge-setup .ensures) ∙ c .if1 .left)
-
-clear-requires : tie.Need-clear-requires
-clear-requires c κs = search needs
-
-judge-setup-requires : tie.Need-judge-setup-requires
-judge-setup-requires c κs = search needs
 
 returns : tie.Need-returns
 unfolding setup
@@ -31,39 +25,15 @@ returns c =
       tables-are = j .before .clear .ensures;
     }
 
-array-read-t24 : tie.Need-array-read-t24
-array-read-t24 c = search needs
-
-cast-t25 : tie.Need-cast-t25
-cast-t25 c = omega (arith, fits c 0)
-
-array-read-t28 : tie.Need-array-read-t28
-array-read-t28 c = search needs
-
-cast-t29 : tie.Need-cast-t29
-cast-t29 c = omega (arith, fits c 1)
-
-array-read-t32 : tie.Need-array-read-t32
-array-read-t32 c = search needs
-
-cast-t33 : tie.Need-cast-t33
-cast-t33 c = omega (arith, fits c 2)
-
-array-read-t36 : tie.Need-array-read-t36
-array-read-t36 c = search needs
-
-cast-t37 : tie.Need-cast-t37
-cast-t37 c = omega (arith, fits c 3)
-
 returns-2 : tie.Need-returns-2
 unfolding setup
 returns-2 c =
     let j = c .before .before in
-    let s = j .before .before .before .before .before .before .before .before .before in
+    let s = j .before .before .before .before .before .before .before .before .before .before .before in
     let e = sym (j .judge-setup .ensures) ∙ c .before .if1 .left in
     record {
       number-is = sym e;
-      stations-are = accepted-stations (s .args .t9) (good-length (eInt w16) 4 (s .args .t9) _ (s .good .1 .1 .1 .1 .1 .1 .1 .1 .0)) e;
+      stations-are = accepted-stations (s .args .t11) (good-length (eInt w16) 4 (s .args .t11) _ (s .good .1 .1 .1 .1 .1 .1 .1 .1 .1 .1 .0)) e;
       tables-are = j .before .clear .ensures;
     }
 
@@ -71,15 +41,15 @@ pub setup-spec : {M : Type 1} → statement M
 setup-spec =
     tie.close
     (tie.spec
-    clear-requires
-    judge-setup-requires
+    (λ c κs. search needs)
+    (λ c κs. search needs)
     returns
-    array-read-t24
-    cast-t25
-    array-read-t28
-    cast-t29
-    array-read-t32
-    cast-t33
-    array-read-t36
-    cast-t37
+    (λ c. search needs)
+    (λ c. omega (arith, fits c 0))
+    (λ c. search needs)
+    (λ c. omega (arith, fits c 1))
+    (λ c. search needs)
+    (λ c. omega (arith, fits c 2))
+    (λ c. search needs)
+    (λ c. omega (arith, fits c 3))
     returns-2)

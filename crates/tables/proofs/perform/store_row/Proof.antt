@@ -7,8 +7,7 @@ returns : tie.Need-returns
 returns c =
     let t = c .before .before .before in
     let r = t .before .args .row in
-    let f = t .struct-told .given in
-    (
+    let f = t .struct-told .given in (
       rw (i32-back (r .x) (f .0 .1)),
       (rw (i32-back (r .y) (f .1 .0 .1)), (rw (i32-back (r .z) (f .1 .1 .0 .1)), rw (i32-back (r .w) (f .1 .1 .1 .0 .1)))),
     )
