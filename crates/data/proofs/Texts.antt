@@ -27,7 +27,7 @@ use Rattle.data.specs.declared.field.Field.the-variants as field
 use Rattle.data.specs.declared.data.Values.the-variants.{Of}
 use Rattle.data.specs.Ranges.{countOf, valuesOf, limitsOf, inRange, eachInRange, allInRange}
 use Rattle.data.specs.Data.{asHundredths, readHundredthsField, readWholeField, readField, digitsOf, fieldText, withFirst, readFields, asValues, readData, following, spaced, dataText}
-use Rattle.data.proofs.Bounds.{in-digits, in-nat, in-small, some-value, few-values, head-in, tail-in}
+use Rattle.data.proofs.Bounds.{in-digits, in-nat, in-small, some-value, head-in, tail-in}
 
 -- ---- one field
 
@@ -124,14 +124,14 @@ data-skips test none point minus space k r = first (valuesOf k r)
 pub data-clean : (k : Kind) (r : Row) → Skips isStray (dataText k r)
 data-clean = data-skips isStray digit-clean refl refl refl
 
--- a row of the longest values is the longest: 35 bytes
-pub data-length : (k : Kind) (r : Row) → (1 ≤ length (dataText k r)) × (length (dataText k r) ≤ 35)
+-- 8 bytes at most for each value, and an SP between each two
+pub data-length : (k : Kind) (r : Row) → (1 ≤ length (dataText k r)) × (length (dataText k r) < 9 * countOf k)
 unfolding dataText
 data-length k r = go (valuesOf k r) (count-values k r) (some-value k .1)
   where
-    go : (vs : List ℤ) → length vs ≡ countOf k → countOf k ≡ suc (some-value k .0) → (1 ≤ length (spaced (map (fieldText k) vs))) × (length (spaced (map (fieldText k) vs)) ≤ 35)
+    go : (vs : List ℤ) → length vs ≡ countOf k → countOf k ≡ suc (some-value k .0) → (1 ≤ length (spaced (map (fieldText k) vs))) × (length (spaced (map (fieldText k) vs)) < 9 * countOf k)
     go [] n p = absurd (omega arith)
-    go (v ∷ vs) n p = let l = spaced-length k v vs in (l .0, omega (arith, l .1, few-values k))
+    go (v ∷ vs) n p = let l = spaced-length k v vs in (l .0, omega (arith, l .1))
 
 -- what a text of data keeps of a row: the values of its kind
 abbrev pub kept : Kind → Row → Row

@@ -1,5 +1,5 @@
 -- Bodies and frames: how long they are, and what a writer answers.
-use Prim.Native.Nat.{ℕ, _+_, _≤_}
+use Prim.Native.Nat.{ℕ, _+_, _*_, _≤_}
 use mathlib.Core.Path.{_≡_, refl}
 use mathlib.Core.Bool.{Bool, true, false, cond}
 use mathlib.Core.List.{List, []}
@@ -24,6 +24,8 @@ use Rattle.commands.specs.Command.{nameOf, ruleOf}
 use Rattle.harl.specs.Body.{dataPart, bodyText}
 use Rattle.harl.specs.Reply.{contentOf, unknownText, statusText, refusalText, performedText, outcomeText}
 use Rattle.harl.specs.Message.{Wrote}
+use Rattle.data.specs.Ranges.{countOf}
+use Rattle.data.proofs.Bounds.{few-values}
 use Rattle.data.proofs.Texts.{data-length}
 
 -- ---- lengths
@@ -52,14 +54,14 @@ pub body-parts : (p : Parts) → length (bodyText p) ≡ length (nameOf (p .comm
 unfolding bodyText
 body-parts p = simp length-append (omega arith)
 
-part-length : (t : Bool) (k : Kind) (r : Row) → length (dataPart t k r) ≤ 36
+pub part-length : (t : Bool) (k : Kind) (r : Row) → length (dataPart t k r) ≤ 9 * countOf k
 part-length true k r = omega (arith, data-length k r .1)
 part-length false k r = omega arith
 
 pub body-length : (p : Parts) → (1 ≤ length (bodyText p)) × (length (bodyText p) ≤ 45)
 body-length p =
     let d = part-length (ruleOf (p .command) .store) (ruleOf (p .command) .kind) (p .values) in
-    (omega (arith, body-parts p), omega (arith, body-parts p, name-length (p .command), shortest-short (p .number)))
+    (omega (arith, body-parts p), omega (arith, body-parts p, name-length (p .command), shortest-short (p .number), few-values (ruleOf (p .command) .kind)))
 
 pub status-length : (t : Bool) (n : ℕ) → (1 ≤ length (statusText t n)) × (length (statusText t n) ≤ 3)
 unfolding statusText digit
@@ -75,7 +77,9 @@ refusal-length n store = go (eqb n 9)
 
 pub outcome-length : (store : Bool) (o : Outcome) → (1 ≤ length (outcomeText store o)) × (length (outcomeText store o) ≤ 35)
 unfolding outcomeText
-outcome-length store (outcome.Data d) = data-length (contentOf d .kind) (contentOf d .row)
+outcome-length store (outcome.Data d) =
+    let l = data-length (contentOf d .kind) (contentOf d .row) in
+    (l .0, omega (arith, l .1, few-values (contentOf d .kind)))
 outcome-length store (outcome.Status n) =
     let l = status-length store n in
     (l .0, omega arith)

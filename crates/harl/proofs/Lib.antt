@@ -3,3 +3,4 @@ pub mod Bodies
 pub mod Requests
 pub mod Replies
 pub mod Accepted
+pub mod Lengths

@@ -94,7 +94,7 @@ outcome-clean store (outcome.Status n) = status-clean store n
 -- ---- the frame
 
 -- a check that gives its own number, and then another
-checked-then : (a b : ℕ) → cond (eqb a 0) b a ≡ 0 → (a ≡ 0) × (b ≡ 0)
+pub checked-then : (a b : ℕ) → cond (eqb a 0) b a ≡ 0 → (a ≡ 0) × (b ≡ 0)
 checked-then a b = go (eqb a 0) refl
   where
     go : (t : Bool) → eqb a 0 ≡ t → cond t b a ≡ 0 → (a ≡ 0) × (b ≡ 0)

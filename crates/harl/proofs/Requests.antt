@@ -1,5 +1,5 @@
 -- Every request that can be written reads back as itself.
-use Prim.Native.Nat.{ℕ, _≤_, _<_}
+use Prim.Native.Nat.{ℕ, _+_, _*_, _≤_, _<_}
 use mathlib.Core.Path.{_≡_, refl, ap}
 use mathlib.Core.Bool.{Bool, true, false, _||_}
 use mathlib.Core.List.{List, [], _∷_, _++_, append-nil}
@@ -9,7 +9,7 @@ use lib.Dec.{ltb, eqb}
 use lib.IntN.{pos}
 use lib.ListN.{length}
 use Rattle.text.specs.Scan.{until, before}
-use Rattle.text.specs.Whole.{shortest}
+use Rattle.text.specs.Whole.{digit, leading, shortest}
 use Rattle.text.proofs.Laws.{Skips, skips-all, skips-cons, skips-append}
 use Rattle.text.proofs.Digits.{read-shortest, shortest-skips}
 use Rattle.frame.specs.Fields.{fields}
@@ -32,7 +32,7 @@ use Rattle.harl.specs.declared.body.Shape.the-variants as shape
 use Rattle.harl.specs.declared.body.Judged.the-variants.{Accepted}
 use Rattle.commands.specs.Command.{same, nameOf, among, commandOf, ruleOf}
 use Rattle.commands.specs.Request.{one, partsOf, requestOf}
-use Rattle.data.specs.Ranges.{judge, allInRange}
+use Rattle.data.specs.Ranges.{countOf, judge, allInRange}
 use Rattle.data.specs.Data.{dataText}
 use Rattle.harl.specs.Body.{dataShape, readShape, requestOrRefusal, readBody, dataPart, bodyText}
 use Rattle.harl.specs.Message.{ruleFor, judgeAsked, readRequest, writeRequest}
@@ -44,31 +44,33 @@ use Rattle.data.proofs.Texts.{shortest-solid, data-clean, kept, data-back}
 
 -- ---- the sixteen commands, by computation
 
--- the name is read as the command, has no SP and no stray byte, and the numbers have at most 4 digits
-record Sound (c : Command) : Type 0 where
-  named : commandOf (nameOf c) ≡ Is c
-  solid : before 32 (nameOf c) ≡ length (nameOf c)
-  clean : stray (nameOf c) ≡ length (nameOf c)
-  small : ltb (ruleOf c .last) 10000 ≡ true
+-- the name is read as the command, has no SP and no stray byte, the numbers have at most 4 digits, and the name, the
+-- last number and the data have at most 41 bytes with an SP before the data
+pub record Sound (c : Command) : Type 0 where
+  pub named : commandOf (nameOf c) ≡ Is c
+  pub solid : before 32 (nameOf c) ≡ length (nameOf c)
+  pub clean : stray (nameOf c) ≡ length (nameOf c)
+  pub small : ltb (ruleOf c .last) 10000 ≡ true
+  pub short : ltb (length (nameOf c) + (length (shortest (ruleOf c .last)) + 9 * countOf (ruleOf c .kind))) 42 ≡ true
 
-sound : (c : Command) → Sound c
-unfolding commandOf among same nameOf until
-sound Lnt = record { named = refl; solid = refl; clean = refl; small = refl }
-sound Snt = record { named = refl; solid = refl; clean = refl; small = refl }
-sound Lnd = record { named = refl; solid = refl; clean = refl; small = refl }
-sound Snd = record { named = refl; solid = refl; clean = refl; small = refl }
-sound Lnl = record { named = refl; solid = refl; clean = refl; small = refl }
-sound Snl = record { named = refl; solid = refl; clean = refl; small = refl }
-sound Lnib = record { named = refl; solid = refl; clean = refl; small = refl }
-sound Lnob = record { named = refl; solid = refl; clean = refl; small = refl }
-sound Snob = record { named = refl; solid = refl; clean = refl; small = refl }
-sound Lnid = record { named = refl; solid = refl; clean = refl; small = refl }
-sound Lnod = record { named = refl; solid = refl; clean = refl; small = refl }
-sound Snod = record { named = refl; solid = refl; clean = refl; small = refl }
-sound Lnbb = record { named = refl; solid = refl; clean = refl; small = refl }
-sound Snbb = record { named = refl; solid = refl; clean = refl; small = refl }
-sound Lnbd = record { named = refl; solid = refl; clean = refl; small = refl }
-sound Snbd = record { named = refl; solid = refl; clean = refl; small = refl }
+pub sound : (c : Command) → Sound c
+unfolding commandOf among same nameOf until shortest leading digit
+sound Lnt = record { named = refl; solid = refl; clean = refl; small = refl; short = refl }
+sound Snt = record { named = refl; solid = refl; clean = refl; small = refl; short = refl }
+sound Lnd = record { named = refl; solid = refl; clean = refl; small = refl; short = refl }
+sound Snd = record { named = refl; solid = refl; clean = refl; small = refl; short = refl }
+sound Lnl = record { named = refl; solid = refl; clean = refl; small = refl; short = refl }
+sound Snl = record { named = refl; solid = refl; clean = refl; small = refl; short = refl }
+sound Lnib = record { named = refl; solid = refl; clean = refl; small = refl; short = refl }
+sound Lnob = record { named = refl; solid = refl; clean = refl; small = refl; short = refl }
+sound Snob = record { named = refl; solid = refl; clean = refl; small = refl; short = refl }
+sound Lnid = record { named = refl; solid = refl; clean = refl; small = refl; short = refl }
+sound Lnod = record { named = refl; solid = refl; clean = refl; small = refl; short = refl }
+sound Snod = record { named = refl; solid = refl; clean = refl; small = refl; short = refl }
+sound Lnbb = record { named = refl; solid = refl; clean = refl; small = refl; short = refl }
+sound Snbb = record { named = refl; solid = refl; clean = refl; small = refl; short = refl }
+sound Lnbd = record { named = refl; solid = refl; clean = refl; small = refl; short = refl }
+sound Snbd = record { named = refl; solid = refl; clean = refl; small = refl; short = refl }
 
 name-solid : (c : Command) → Skips (λ b. eqb b 32) (nameOf c)
 name-solid c = skips-all (λ b. eqb b 32) (nameOf c) (sound c .solid)

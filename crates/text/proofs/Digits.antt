@@ -44,6 +44,20 @@ shortest-some v = omega (arith, shortest-length v)
 pub shortest-short : (v : ℕ) → length (shortest v) ≤ 4
 shortest-short v = omega (arith, shortest-length v, leading-length 1000 v, leading-length 100 v, leading-length 10 v)
 
+-- a greater number has no fewer digits
+leading-grows : (u v w : ℕ) → v ≤ w → length (leading u v) ≤ length (leading u w)
+leading-grows u v w h = go (ltb v u) refl
+  where
+    go : (t : Bool) → ltb v u ≡ t → length (leading u v) ≤ length (leading u w)
+    go true e = rw (leading-none u v (ltb-true v u e)) (omega arith)
+    go false e =
+        let l = ltb-false v u e in
+        rw (leading-some u v l, leading-some u w (omega arith), digit-length u v, digit-length u w) (omega arith)
+
+pub shortest-grows : (v w : ℕ) → v ≤ w → length (shortest v) ≤ length (shortest w)
+shortest-grows v w h =
+    omega (arith, shortest-length v, shortest-length w, leading-grows 1000 v w h, leading-grows 100 v w h, leading-grows 10 v w h)
+
 pub padded-length : (v : ℕ) → length (padded v) ≡ 4
 unfolding padded
 padded-length v = simp (length-append, digit-length)
