@@ -20,7 +20,7 @@ ghost use lib.ListN.{length, getD, set};
 ghost use lib.IntN.{natAbs, pos};
 ghost use Rattle.harl.specs.declared.reply.Data.the-variants as held;
 ghost use Rattle.harl.specs.Message.{judgeRequest};
-ghost use Rattle.tables.specs.Tables.{Tables, columns, rowAt, tables, set2, loaded, stored, LoadInRange, StoreInRange, Performed};
+ghost use Rattle.tables.specs.Tables.{Tables, columns, rowAt, tables, atz2, set2, loaded, stored, LoadInRange, StoreInRange, Performed};
 
 // The value of a timer or a register.
 fn load_word(words: &[u16], n: u16) -> i32
@@ -28,6 +28,14 @@ fn load_word(words: &[u16], n: u16) -> i32
     ensures { λ r. ⌜ r ≡ pos (getD (now (words .entry)) n 0) ⌝ }
 {
     words[n as usize] as i32
+}
+
+// One field of a row.
+fn load_offset(offsets: &[[i32; 100]; 4], slot: usize, n: u16) -> i32
+    requires { ⌜ (slot < 4) × (n < 100) ⌝ }
+    ensures { λ r. ⌜ r ≡ atz2 (now (offsets .entry)) slot n ⌝ }
+{
+    offsets[slot][n as usize]
 }
 
 // The fields of a row.
@@ -42,12 +50,11 @@ fn load_row(
     requires { ⌜ (slot < 4) × (n < 100) ⌝ }
     ensures { λ r. ⌜ r ≡ held.Row (rowAt slot n (columns (now (x .entry)) (now (y .entry)) (now (z .entry)) (now (w .entry)))) ⌝ }
 {
-    let i = n as usize;
     Data::Row(Row {
-        x: x[slot][i],
-        y: y[slot][i],
-        z: z[slot][i],
-        w: w[slot][i],
+        x: load_offset(x, slot, n),
+        y: load_offset(y, slot, n),
+        z: load_offset(z, slot, n),
+        w: load_offset(w, slot, n),
     })
 }
 
@@ -89,6 +96,14 @@ fn store_word(words: &mut [u16], n: u16, v: i32)
     words[n as usize] = unsigned_abs(v) as u16;
 }
 
+// Replaces one field of a row.
+fn store_offset(offsets: &mut [[i32; 100]; 4], slot: usize, n: u16, v: i32)
+    requires { ⌜ (slot < 4) × (n < 100) ⌝ }
+    ensures { λ _. ⌜ now (offsets .exit) ≡ set2 (now (offsets .entry)) slot n v ⌝ }
+{
+    offsets[slot][n as usize] = v;
+}
+
 // Replaces the fields of a row.
 fn store_row(
     x: &mut [[i32; 100]; 4],
@@ -105,15 +120,10 @@ fn store_row(
     ensures { λ _. ⌜ now (z .exit) ≡ set2 (now (z .entry)) slot n (row .z) ⌝ }
     ensures { λ _. ⌜ now (w .exit) ≡ set2 (now (w .entry)) slot n (row .w) ⌝ }
 {
-    let i = n as usize;
-    let a = row.x;
-    let b = row.y;
-    let c = row.z;
-    let d = row.w;
-    x[slot][i] = a;
-    y[slot][i] = b;
-    z[slot][i] = c;
-    w[slot][i] = d;
+    store_offset(x, slot, n, row.x);
+    store_offset(y, slot, n, row.y);
+    store_offset(z, slot, n, row.z);
+    store_offset(w, slot, n, row.w);
 }
 
 // Replaces what slot's arm holds under the number of a store by its data.

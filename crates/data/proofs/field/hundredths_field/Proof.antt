@@ -7,15 +7,6 @@ use Rattle.data.specs.Data.{asHundredths}
 use Rattle.data.proofs.field.hundredths_field.Statement.{statement}
 use Rattle.data.proofs.field.hundredths_field.Tie as tie
 
-read-hundredths-requires : tie.Need-read-hundredths-requires
-read-hundredths-requires c κs = search needs
-
-enum-known-h : tie.Need-enum-known-h
-enum-known-h c = search needs
-
-enum-told : tie.Need-enum-told
-enum-told c = search needs
-
 returns : tie.Need-returns
 returns c =
     let h = c .before in
@@ -28,4 +19,4 @@ returns-2 c = ap asHundredths (sym (c .enum-told .given .1) ∙ c .before .befor
 
 pub hundredths-field-spec : {M : Type 1} → statement M
 hundredths-field-spec =
-    tie.close (tie.spec read-hundredths-requires enum-known-h enum-told returns returns-2)
+    tie.close (tie.spec (λ c κs. search needs) (λ c. search needs) (λ c. search needs) returns returns-2)

@@ -7,18 +7,6 @@ use Rattle.data.specs.Data.{asWhole}
 use Rattle.data.proofs.field.whole_field.Statement.{statement}
 use Rattle.data.proofs.field.whole_field.Tie as tie
 
-read-whole-requires : tie.Need-read-whole-requires
-read-whole-requires c κs = search needs
-
-enum-known-w : tie.Need-enum-known-w
-enum-known-w c = search needs
-
-cast-t5 : tie.Need-cast-t5
-cast-t5 c = search needs
-
-enum-told : tie.Need-enum-told
-enum-told c = search needs
-
 returns : tie.Need-returns
 returns c =
     let w = c .before in
@@ -30,4 +18,4 @@ returns-2 c = ap asWhole (sym (c .enum-told .given .1) ∙ c .before .before .re
 
 pub whole-field-spec : {M : Type 1} → statement M
 whole-field-spec =
-    tie.close (tie.spec read-whole-requires enum-known-w cast-t5 enum-told returns returns-2)
+    tie.close (tie.spec (λ c κs. search needs) (λ c. search needs) (λ c. search needs) (λ c. search needs) returns returns-2)

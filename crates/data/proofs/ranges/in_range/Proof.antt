@@ -27,9 +27,6 @@ module _ (k : Kind) {l : Limits} {v : ℤ} (e : l ≡ limitsOf k) (low : SFits w
     unfolding inRange
     within b = rw (← e, rw (toZ-ofZ f, toZ-ofZ low) at a, rw (toZ-ofZ high, toZ-ofZ f) at b)
 
-limits-of-requires : tie.Need-limits-of-requires
-limits-of-requires c κs = search needs
-
 returns : tie.Need-returns
 returns c =
     let l = c .before .before .before in
@@ -54,4 +51,4 @@ returns-3 c =
     within (s .args .kind) (l .limits-of .ensures) (record { sfits = g .0 .1 }) (record { sfits = g .1 .0 .1 }) (s .fits .v) (i .if1 .left) (c .if2 .left)
 
 pub in-range-spec : {M : Type 1} → statement M
-in-range-spec = tie.close (tie.spec limits-of-requires returns returns-2 returns-3)
+in-range-spec = tie.close (tie.spec (λ c κs. search needs) returns returns-2 returns-3)

@@ -13,9 +13,6 @@ returns-2 : tie.Need-returns-2
 unfolding judge
 returns-2 c = simp (le-ltb _ _ (c .before .before .if1 .left), lt-ltb _ _ (c .if2 .taken))
 
-all-in-range-requires : tie.Need-all-in-range-requires
-all-in-range-requires c κs = search needs
-
 returns-3 : tie.Need-returns-3
 unfolding judge
 returns-3 c =
@@ -29,4 +26,4 @@ returns-4 c =
     simp (le-ltb _ _ (i .before .before .if1 .left), le-ltb _ _ (i .if2 .left), sym (c .before .all-in-range .ensures) ∙ c .if3 .left)
 
 pub judge-parts-spec : {M : Type 1} → statement M
-judge-parts-spec = tie.close (tie.spec returns returns-2 all-in-range-requires returns-3 returns-4)
+judge-parts-spec = tie.close (tie.spec returns returns-2 (λ c κs. search needs) returns-3 returns-4)
