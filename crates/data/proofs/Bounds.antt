@@ -5,7 +5,7 @@ use mathlib.Core.Bool.{Bool, true, false, cond, not, _&&_, _||_}
 use mathlib.Core.List.{List, [], _∷_}
 use native.Mathlib.Omega.{arith}
 use native.Mathlib.Nat.{suc-add}
-use borrow.Author.Tests.{ltb-false, not-true}
+use borrow.Author.Tests.{le-ltb, ltb-false, not-true}
 use lib.Dec.{ltb}
 use lib.IntN.{ℤ, pos, negsuc, natAbs}
 use lib.ListN.{length, getD, take, drop, replicate, drop-of-length-le}
@@ -144,6 +144,11 @@ passed rule n r h = go (ltb n (rule .first)) (ltb (rule .last) n) (allInRange (r
     go false true t p q e z = absurd (omega arith)
     go false false true p q e z = record { low = ltb-false n (rule .first) p; high = ltb-false (rule .last) n q; values = e }
     go false false false p q e z = absurd (omega arith)
+
+-- a number and a single value that pass them
+pub judged : (rule : Rule) (n : ℕ) (v : ℤ) → rule .first ≤ n → n ≤ rule .last → inRange (rule .kind) v ≡ true → judge rule n (one v) ≡ 0
+unfolding judge
+judged rule n v l h e = rw (le-ltb n (rule .first) l, le-ltb (rule .last) n h, one-in (rule .kind) v e)
 
 -- ---- a list up to n, from an index on
 

@@ -9,7 +9,7 @@ use native.Mathlib.Omega.{arith}
 use lib.Dec.{eqb}
 use lib.IntN.{ℤ, pos, natAbs}
 use lib.ListN.{length, length-append}
-use Rattle.text.specs.Whole.{readWhole, shortest, padded}
+use Rattle.text.specs.Whole.{readWhole, shortest}
 use Rattle.text.specs.declared.whole.Whole.the-variants as whole
 use Rattle.text.specs.Hundredths.{hundredthsText}
 use Rattle.text.proofs.Laws.{Skips, skips-append, skips-cons}

@@ -4,15 +4,13 @@ use mathlib.Core.Path.{_≡_, refl}
 use mathlib.Core.Bool.{Bool, true, false, cond}
 use mathlib.Core.List.{List, [], _∷_}
 use native.Mathlib.Omega.{arith}
-use borrow.Author.Tests.{le-ltb, eqb-true}
+use borrow.Author.Tests.{eqb-true}
 use lib.Dec.{eqb}
 use lib.IntN.{ℤ, pos}
 use Rattle.commands.specs.declared.command.Command.{Command}
 use Rattle.commands.specs.declared.command.Command.the-variants.{Lnt, Snt, Lnd, Snd, Lnl, Snl, Lnib, Lnob, Snob, Lnid, Lnod, Snod, Lnbb, Snbb, Lnbd, Snbd}
 use Rattle.commands.specs.declared.command.Named.{Named}
 use Rattle.commands.specs.declared.command.Named.the-variants.{Is, Unknown}
-use Rattle.commands.specs.declared.command.Kind.{Kind}
-use Rattle.commands.specs.declared.command.Kind.the-variants as kind
 use Rattle.commands.specs.declared.command.Rule.{Rule}
 use Rattle.commands.specs.declared.request.Row.{Row}
 use Rattle.commands.specs.declared.request.Request.{Request}
@@ -21,10 +19,10 @@ use Rattle.commands.specs.Request.{one, builds}
 use Rattle.harl.specs.declared.body.Shape.{Shape}
 use Rattle.harl.specs.declared.body.Shape.the-variants as shape
 use Rattle.harl.specs.declared.body.Judged.the-variants.{Accepted, Refused}
-use Rattle.data.specs.Ranges.{inRange, allInRange, judge}
+use Rattle.data.specs.Ranges.{inRange, judge}
 use Rattle.harl.specs.Body.{readShape, requestOrRefusal, shaped, afterName, ofFields, readBody}
 use Rattle.harl.specs.Message.{judgeRequest}
-use Rattle.data.proofs.Bounds.{passed, all-x, zero-in, one-in}
+use Rattle.data.proofs.Bounds.{all-x, zero-in, passed, judged}
 use Rattle.frame.specs.Fields.{fields}
 
 -- ---- the parts of a built request are judged as what it was built of
@@ -32,10 +30,7 @@ use Rattle.frame.specs.Fields.{fields}
 module _ (rule : Rule) (n : ℕ) (row : Row) (h : judge rule n row ≡ 0) where
   -- another value in range
   other : (v : ℤ) → inRange (rule .kind) v ≡ true → judge rule n (one v) ≡ 0
-  unfolding judge
-  other v e =
-      let p = passed rule n row h in
-      rw (le-ltb n (rule .first) (p .low), le-ltb (rule .last) n (p .high), one-in (rule .kind) v e)
+  other v e = let p = passed rule n row h in judged rule n v (p .low) (p .high) e
 
   -- an LN carries no data
   pub bare : judge rule n (one (pos 0)) ≡ 0

@@ -14,7 +14,6 @@ use Rattle.frame.proofs.Writing.{frame-length}
 use Rattle.commands.specs.declared.request.Request.{Request}
 use Rattle.commands.specs.Command.{nameOf, ruleOf}
 use Rattle.commands.specs.Request.{partsOf}
-use Rattle.harl.specs.declared.reply.Outcome.{Outcome}
 use Rattle.harl.specs.Body.{bodyText}
 use Rattle.harl.specs.Reply.{judgeOutcome, outcomeText}
 use Rattle.harl.specs.Message.{ruleFor, judgeAsked, writeRequest, judgeReply, writeReply}
@@ -57,11 +56,12 @@ asked-short st r e =
 pub requests-short : RequestsShort
 unfolding writeRequest
 requests-short room st r =
-    unless-refused _ 48 _ (λ e. asked-short st r (check-passed (ltb room 64) 1 (judgeAsked st r) (omega arith) e .1))
+    unless-refused _ _ (frameOf st (bodyText (partsOf r))) (λ e.
+    omega (arith, asked-short st r (check-passed (ltb room 64) 1 (judgeAsked st r) (omega arith) e .1)))
 
 pub replies-short : RepliesShort
 unfolding writeReply judgeReply
 replies-short room st r o =
-    unless-refused _ 41 _ (λ e.
+    unless-refused _ _ _ (λ e.
     let j = checked-then (judgeAsked st r) (judgeOutcome (ruleFor r) o) (check-passed (ltb room 64) 1 _ (omega arith) e .1) in
     omega (arith, frame-length st (outcomeText (ruleFor r .store) o), two-digits st (asked-ok st r (j .0) .0 .1), outcome-length (ruleFor r .store) o .1))

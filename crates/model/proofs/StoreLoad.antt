@@ -32,7 +32,7 @@ use Rattle.tables.specs.Bits.{bit, withBit}
 use Rattle.tables.specs.Tables.{PerField, eachField, eachWith, EachField, asRow, withInputs, set2, LoadInRange, StoreInRange}
 use Rattle.tables.proofs.Bits.{bit-same, bit-other}
 use Rattle.tables.proofs.Ranges.{readable}
-use Rattle.data.proofs.Bounds.{passed, in-size, in-nat, all-x, zero-in, one-in}
+use Rattle.data.proofs.Bounds.{in-size, in-nat, all-x, zero-in, passed, judged}
 use Rattle.harl.proofs.Accepted.{accepted-in-range}
 use Rattle.harl.proofs.Requests.{requests-read-back, asked-ok}
 use Rattle.model.specs.Call.{serve, input}
@@ -293,8 +293,7 @@ Ranged (wired p v) = p ≤ 31
 
 -- an LN whose number is in its range
 number-ranged : (rule : Rule) (n : ℕ) → rule .first ≤ n → n ≤ rule .last → judge rule n (one (pos 0)) ≡ 0
-unfolding judge
-number-ranged rule n l h = rw (le-ltb n (rule .first) l, le-ltb (rule .last) n h, one-in (rule .kind) (pos 0) (zero-in (rule .kind)))
+number-ranged rule n l h = judged rule n (pos 0) l h (zero-in (rule .kind))
 
 -- the LN of its item is in range
 item-ranged : (w : Write) → Ranged w → LoadInRange (itemOf w)

@@ -1,6 +1,6 @@
 -- The invariant: the fields that are left, read into the array as it is now from value i on, give what all of them give.
 use Prim.Native.Nat.{ℕ, zero, suc, _+_, _-_, _≤_, _<_}
-use mathlib.Core.Path.{_≡_, refl, sym, ap, ap₂, _∙_}
+use mathlib.Core.Path.{_≡_, refl, sym, ap, _∙_}
 use mathlib.Core.Bool.{cond}
 use mathlib.Core.List.{List, [], _∷_}
 use mathlib.Core.Option.{Option, none, some}
@@ -12,10 +12,9 @@ use borrow.Author.Tests.{le-ltb, lt-ltb}
 use borrow.Author.Needs.{needs}
 use lib.Dec.{ltb}
 use lib.IntN.{ℤ, pos}
-use lib.ListN.{length, set, take, drop, replicate, length-set, length-drop}
+use lib.ListN.{length, set, take, drop, length-drop}
 use lib.Seq.{sets, drop-drop}
 use Rattle.text.specs.Scan.{before}
-use Rattle.text.proofs.Laws.{over}
 use Rattle.text.proofs.Signed.{i32-back}
 use Rattle.frame.specs.Fields.{fields}
 use Rattle.frame.proofs.Laws.{fields-only, fields-next}

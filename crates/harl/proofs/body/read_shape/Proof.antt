@@ -1,6 +1,6 @@
 -- `e` is where the number's end was found, `read` where it was read, `n` the number, and `d` where the data were read.
 use Prim.Native.Nat.{ℕ, _+_}
-use mathlib.Core.Path.{_≡_, refl, sym, _∙_}
+use mathlib.Core.Path.{_≡_, sym, _∙_}
 use mathlib.Core.List.{List, []}
 use borrow.Author.Needs.{needs}
 use lib.ListN.{length, take, drop}

@@ -1,4 +1,3 @@
-use mathlib.Core.Path.{_∙_, ap}
 use borrow.Author.Needs.{needs}
 use Rattle.text.proofs.Signed.{i32-back}
 use Rattle.tables.proofs.perform.store_row.Statement.{statement}
