@@ -1,4 +1,5 @@
 pub mod Laws
+pub mod Fields
 pub mod Digits
 pub mod Decimals
 pub mod Signed

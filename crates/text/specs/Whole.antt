@@ -1,5 +1,5 @@
 -- Whole numbers as text (document 01, "Numbers as text").
-use Prim.Native.Nat.{ℕ, _+_, _-_, _*_, _/_, _%_}
+use Prim.Native.Nat.{ℕ, zero, suc, _+_, _-_, _*_, _/_, _%_}
 use mathlib.Core.Bool.{Bool, cond, _&&_}
 use mathlib.Core.List.{List, [], _∷_, _++_}
 use lib.ListN.{length}
@@ -19,6 +19,18 @@ digitsOnto n (b ∷ bs) = cond (isDigit b) (digitsOnto (n * 10 + (b - 48)) bs) M
 -- 1 to 4 digits, leading zeros allowed, no sign
 unfoldable pub readWhole : List ℕ → Whole
 readWhole s = cond (leb 1 (length s) && leb (length s) 4) (digitsOnto 0 s) Malformed
+
+-- how many digits a text starts with, of its first k bytes
+unfoldable pub digitCount : ℕ → List ℕ → ℕ
+digitCount zero s = zero
+digitCount (suc k) [] = zero
+digitCount (suc k) (b ∷ bs) = cond (isDigit b) (suc (digitCount k bs)) zero
+
+-- those digits, read onto n
+unfoldable pub digitValue : ℕ → ℕ → List ℕ → ℕ
+digitValue zero n s = n
+digitValue (suc k) n [] = n
+digitValue (suc k) n (b ∷ bs) = cond (isDigit b) (digitValue k (n * 10 + (b - 48)) bs) n
 
 -- the digit of v that counts units of u
 unfoldable pub digit : ℕ → ℕ → List ℕ

@@ -1,16 +1,22 @@
 // Hundredths: read from an optional "-", 1 to 4 digits, and nothing or a point with 1 or 2 digits; written
 // with the shortest whole part and two decimals, "-" only below zero.
 use crate::put::put_byte;
-use crate::scan::find;
+use crate::scan::is_end;
 use crate::whole::Whole;
+use crate::whole::WholeField;
 use crate::whole::put_shortest;
 use crate::whole::put_two_digits;
+use crate::whole::read_digits;
 use crate::whole::read_whole;
 ghost use mathlib.Core.Path.{_≡_};
-ghost use Prim.Native.Nat.{_≤_, _<_, _+_};
+ghost use Prim.Native.Nat.{ℕ, _≤_, _<_, _+_};
 ghost use lib.ListN.{length};
-ghost use lib.IntN.{natAbs};
+ghost use lib.IntN.{ℤ, natAbs};
 ghost use Rattle.text.specs.Put.{Put};
+ghost use Rattle.text.specs.Scan.{fieldAt, endAt};
+ghost use Rattle.text.specs.declared.whole.Whole.the-variants as whole;
+ghost use Rattle.text.specs.declared.hundredths.Magnitude.the-variants.{Size};
+ghost use Rattle.text.specs.declared.hundredths.Hundredths.the-variants.{Value};
 ghost use Rattle.text.specs.Hundredths.{Small, decimals, magnitude, signed, readHundredths, magnitudeText, hundredthsText};
 
 // A number of hundredths without its sign.
@@ -25,42 +31,89 @@ pub enum Hundredths {
     Malformed,
 }
 
-// Reads the digits after the point: one counts tenths, two count hundredths.
-fn read_decimals(digits: &[u8]) -> Whole
-    ensures { λ r. ⌜ r ≡ decimals (now (digits .entry)) ⌝ }
+// What a field is as either, and where the field ends. The end of one that cannot be read is not looked for.
+pub struct MagnitudeField {
+    pub magnitude: Magnitude,
+    pub end: usize,
+}
+
+pub struct HundredthsField {
+    pub hundredths: Hundredths,
+    pub end: usize,
+}
+
+// Reads the field at `from` as the digits after a point: one counts tenths, two count hundredths.
+fn read_decimals(s: &[u8], from: usize) -> WholeField
+    requires { ⌜ from ≤ length (now s) ⌝ }
+    ensures { λ r. ⌜ r .whole ≡ decimals (fieldAt (now (s .entry)) from) ⌝ }
+    ensures { λ r. ⌜ ((v : ℕ) → r .whole ≡ whole.Value v → r .end ≡ endAt (now (s .entry)) from) ⌝ }
 {
-    if 2 < digits.len() {
-        return Whole::Malformed;
+    let read = read_whole(s, from);
+    let end = read.end;
+    let whole = read.whole;
+    let Whole::Value(v) = whole else {
+        return WholeField {
+            whole: Whole::Malformed,
+            end,
+        };
+    };
+    if end == from + 1 {
+        return WholeField {
+            whole: Whole::Value(v * 10),
+            end,
+        };
     }
-    let w = read_whole(digits);
-    match w {
-        Whole::Value(v) => {
-            if digits.len() == 1 {
-                return Whole::Value(v * 10);
-            }
-            Whole::Value(v)
-        }
-        Whole::Malformed => Whole::Malformed,
+    if end == from + 2 {
+        return WholeField {
+            whole: Whole::Value(v),
+            end,
+        };
+    }
+    WholeField {
+        whole: Whole::Malformed,
+        end,
     }
 }
 
-// Reads a number without a sign.
-fn read_magnitude(s: &[u8]) -> Magnitude
-    ensures { λ r. ⌜ r ≡ magnitude (now (s .entry)) ⌝ }
+// Reads the field at `from` as a number without a sign.
+fn read_magnitude(s: &[u8], from: usize) -> MagnitudeField
+    requires { ⌜ from ≤ length (now s) ⌝ }
+    ensures { λ r. ⌜ r .magnitude ≡ magnitude (fieldAt (now (s .entry)) from) ⌝ }
+    ensures { λ r. ⌜ ((m : ℕ) → r .magnitude ≡ Size m → r .end ≡ endAt (now (s .entry)) from) ⌝ }
 {
-    let point = find(s, 0, b'.');
-    let w = read_whole(&s[..point]);
-    let Whole::Value(units) = w else {
-        return Magnitude::Unreadable;
-    };
-    if point == s.len() {
-        return Magnitude::Size(units as u32 * 100);
+    let digits = read_digits(s, from);
+    let point = digits.end;
+    let units = digits.value as u32;
+    if point == from {
+        return MagnitudeField {
+            magnitude: Magnitude::Unreadable,
+            end: point,
+        };
     }
-    let from = point + 1;
-    let d = read_decimals(&s[from..]);
-    match d {
-        Whole::Value(cents) => Magnitude::Size(units as u32 * 100 + cents as u32),
-        Whole::Malformed => Magnitude::Unreadable,
+    if is_end(s, point) {
+        return MagnitudeField {
+            magnitude: Magnitude::Size(units * 100),
+            end: point,
+        };
+    }
+    if s[point] != b'.' {
+        return MagnitudeField {
+            magnitude: Magnitude::Unreadable,
+            end: point,
+        };
+    }
+    let decimals = read_decimals(s, point + 1);
+    let end = decimals.end;
+    let whole = decimals.whole;
+    match whole {
+        Whole::Value(cents) => MagnitudeField {
+            magnitude: Magnitude::Size(units * 100 + cents as u32),
+            end,
+        },
+        Whole::Malformed => MagnitudeField {
+            magnitude: Magnitude::Unreadable,
+            end,
+        },
     }
 }
 
@@ -80,16 +133,28 @@ fn with_sign(m: Magnitude, minus: bool) -> Hundredths
     }
 }
 
-// Reads a number of hundredths; any other text is malformed.
-pub fn read_hundredths(field: &[u8]) -> Hundredths
-    ensures { λ r. ⌜ r ≡ readHundredths (now (field .entry)) ⌝ }
+// Reads the field at `from` as a number of hundredths, byte by byte up to its end; any other text is malformed.
+pub fn read_hundredths(s: &[u8], from: usize) -> HundredthsField
+    requires { ⌜ from ≤ length (now s) ⌝ }
+    ensures { λ r. ⌜ r .hundredths ≡ readHundredths (fieldAt (now (s .entry)) from) ⌝ }
+    ensures { λ r. ⌜ ((v : ℤ) → r .hundredths ≡ Value v → r .end ≡ endAt (now (s .entry)) from) ⌝ }
 {
-    if 0 < field.len() {
-        if field[0] == b'-' {
-            return with_sign(read_magnitude(&field[1..]), true);
+    if from < s.len() {
+        if s[from] == b'-' {
+            let read = read_magnitude(s, from + 1);
+            let size = read.magnitude;
+            return HundredthsField {
+                hundredths: with_sign(size, true),
+                end: read.end,
+            };
         }
     }
-    with_sign(read_magnitude(field), false)
+    let read = read_magnitude(s, from);
+    let size = read.magnitude;
+    HundredthsField {
+        hundredths: with_sign(size, false),
+        end: read.end,
+    }
 }
 
 // v without its sign.

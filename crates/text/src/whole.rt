@@ -1,10 +1,13 @@
 // Whole numbers: read from 1 to 4 digits, leading zeros allowed; written shortest, or always with 4 digits.
 use crate::put::put_byte;
+use crate::scan::is_end;
 ghost use mathlib.Core.Path.{_≡_};
-ghost use Prim.Native.Nat.{_≤_, _<_, _+_};
-ghost use lib.ListN.{length};
+ghost use Prim.Native.Nat.{ℕ, _≤_, _<_, _+_};
+ghost use lib.ListN.{length, drop};
 ghost use Rattle.text.specs.Put.{Put};
-ghost use Rattle.text.specs.Whole.{readWhole, digit, leading, shortest, twoDigits, padded};
+ghost use Rattle.text.specs.Scan.{fieldAt, endAt};
+ghost use Rattle.text.specs.Whole.{readWhole, digitCount, digitValue, digit, leading, shortest, twoDigits, padded};
+ghost use Rattle.text.specs.declared.whole.Whole.the-variants.{Value};
 
 // What a text is as a whole number.
 pub enum Whole {
@@ -12,31 +15,76 @@ pub enum Whole {
     Malformed,
 }
 
-// Reads a whole number; any other text is malformed.
-pub fn read_whole(field: &[u8]) -> Whole
-    ensures { λ r. ⌜ r ≡ readWhole (now (field .entry)) ⌝ }
+// The digits at an index: what they make, and where they end.
+pub struct Digits {
+    pub value: u16,
+    pub end: usize,
+}
+
+// What a field is as a whole number, and where the field ends. The end of a malformed one is not looked for.
+pub struct WholeField {
+    pub whole: Whole,
+    pub end: usize,
+}
+
+// Reads the digits that stand at `from`, 4 at most.
+pub fn read_digits(s: &[u8], from: usize) -> Digits
+    requires { ⌜ from ≤ length (now s) ⌝ }
+    ensures { λ r. ⌜ (r .end ≡ from + digitCount 4 (drop from (now (s .entry)))) × (r .value ≡ digitValue 4 0 (drop from (now (s .entry)))) ⌝ }
+    ensures { λ r. ⌜ (r .end ≤ length (now (s .entry))) × (r .value < 10000) ⌝ }
 {
-    if field.len() < 1 {
-        return Whole::Malformed;
-    }
-    if 4 < field.len() {
-        return Whole::Malformed;
-    }
+    let room = s.len() - from;
+    let most = if room < 4 { room } else { 4 };
     let mut n: u16 = 0;
-    let mut i = 0;
-    while i < field.len() {
-        let b = field[i];
+    let mut k = 0;
+    while k < most {
+        let b = s[from + k];
         if b < b'0' {
-            return Whole::Malformed;
+            return Digits {
+                value: n,
+                end: from + k,
+            };
         }
         if b'9' < b {
-            return Whole::Malformed;
+            return Digits {
+                value: n,
+                end: from + k,
+            };
         }
         let d = b - b'0';
         n = n * 10 + d as u16;
-        i += 1;
+        k += 1;
     }
-    Whole::Value(n)
+    Digits {
+        value: n,
+        end: from + k,
+    }
+}
+
+// Reads the field at `from` as a whole number, byte by byte up to its end; any other text is malformed.
+pub fn read_whole(s: &[u8], from: usize) -> WholeField
+    requires { ⌜ from ≤ length (now s) ⌝ }
+    ensures { λ r. ⌜ r .whole ≡ readWhole (fieldAt (now (s .entry)) from) ⌝ }
+    ensures { λ r. ⌜ ((v : ℕ) → r .whole ≡ Value v → r .end ≡ endAt (now (s .entry)) from) ⌝ }
+{
+    let digits = read_digits(s, from);
+    let end = digits.end;
+    if end == from {
+        return WholeField {
+            whole: Whole::Malformed,
+            end,
+        };
+    }
+    if is_end(s, end) {
+        return WholeField {
+            whole: Whole::Value(digits.value),
+            end,
+        };
+    }
+    WholeField {
+        whole: Whole::Malformed,
+        end,
+    }
 }
 
 // Writes the digit of v that counts units of `unit`.

@@ -1,72 +1,74 @@
-use Prim.Native.Nat.{ℕ, _^_, _<_}
-use mathlib.Core.Path.{sym, ap, subst, _∙_}
+-- `r` is where the field was read, `w` the number that it is, and `s` where the function starts.
+use Prim.Native.Nat.{ℕ, _+_, _^_, _<_}
+use mathlib.Core.Path.{_≡_, refl, sym, subst, _∙_}
 use native.Mathlib.Omega.{arith}
-use borrow.Author.Tests.{lt-ltb, le-ltb, eq-eqb, ne-eqb}
-use lib.ListN.{length}
-use Rattle.text.specs.Hundredths.{decimals}
-use Rattle.text.specs.declared.whole.Whole.the-variants.{Value}
-use Rattle.text.proofs.Decimals.{Below, whole-below}
 use borrow.Author.Needs.{needs}
+use lib.ListN.{length, drop}
+use Rattle.text.specs.Scan.{fieldAt}
+use Rattle.text.proofs.Decimals.{Below, whole-below}
+use Rattle.text.proofs.Fields.{part-length, decimals-none, decimals-one, decimals-two, decimals-more, no-whole}
 use Rattle.text.proofs.hundredths.read_decimals.Statement.{statement}
 use Rattle.text.proofs.hundredths.read_decimals.Tie as tie
 
--- src/hundredths.rt:31:9
 returns : tie.Need-returns
-unfolding decimals
-returns c = simp (lt-ltb _ _ (c .if1 .taken))
+returns c =
+    let r = c .before .before in
+    let s = r .before .before in
+    (sym (decimals-none (fieldAt (s .args .s .now) (s .args .from)) (sym (r .read-whole .ensures .0) ∙ c .enum-told .given .1)), λ v e. no-whole e)
 
--- src/hundredths.rt:33:9
-read-whole-requires : tie.Need-read-whole-requires
-read-whole-requires c κs = search needs
-
--- src/hundredths.rt:35:22
-enum-known-w : tie.Need-enum-known-w
-enum-known-w c = search needs
-
--- src/hundredths.rt:37:37
-mul-t9 : tie.Need-mul-t9
-mul-t9 c =
+mul-t10 : tie.Need-mul-t10
+mul-t10 c =
     let w = c .before .before in
-    let call = w .before .before in
-    let s = call .before .before .before .args .digits .now in
-    omega (arith, subst (λ (n : ℕ). w .w .given .0 .0 < 10 ^ n) (c .if2 .taken) (subst (Below (10 ^ length s)) (sym (call .read-whole .ensures) ∙ w .w .given .1) (whole-below s)))
+    let r = w .before .before in
+    let s = r .before .before in
+    let f = fieldAt (s .args .s .now) (s .args .from) in
+    let l : length f ≡ 1 = omega (arith, part-length 32 refl (drop (s .args .from) (s .args .s .now)), r .read-whole .ensures .1 _ (w .whole .given .1)) in
+    let b : w .whole .given .0 .0 < 10 ^ length f = subst (Below (10 ^ length f)) (sym (r .read-whole .ensures .0) ∙ w .whole .given .1) (whole-below f) in
+    omega (arith, subst (λ (n : ℕ). w .whole .given .0 .0 < 10 ^ n) l b)
 
--- src/hundredths.rt:37:17
 returns-2 : tie.Need-returns-2
-unfolding decimals
 returns-2 c =
     let w = c .before .before in
-    let call = w .before .before in
-    simp (le-ltb _ _ (call .before .if1 .left), eq-eqb _ _ (c .if2 .taken), sym (call .read-whole .ensures), w .w .given .1)
+    let r = w .before .before in
+    let s = r .before .before in
+    let end = r .read-whole .ensures .1 _ (w .whole .given .1) in
+    let f = fieldAt (s .args .s .now) (s .args .from) in
+    let l : length f ≡ 1 = omega (arith, part-length 32 refl (drop (s .args .from) (s .args .s .now)), end) in
+    (sym (decimals-one f (sym (r .read-whole .ensures .0) ∙ w .whole .given .1) l), λ v e. end)
 
--- src/hundredths.rt:41:29
-enum-told : tie.Need-enum-told
-enum-told c = search needs
-
--- src/hundredths.rt:27:1
 returns-3 : tie.Need-returns-3
-unfolding decimals
 returns-3 c =
-    let w = c .before .before in
-    let call = w .before .before in
-    simp (le-ltb _ _ (call .before .if1 .left), ne-eqb _ _ (c .if2 .left), sym (call .read-whole .ensures), w .w .given .1) (ap Value (omega arith))
+    let w = c .before .before .before in
+    let r = w .before .before in
+    let s = r .before .before in
+    let end = r .read-whole .ensures .1 _ (w .whole .given .1) in
+    let f = fieldAt (s .args .s .now) (s .args .from) in
+    let l : length f ≡ 2 = omega (arith, part-length 32 refl (drop (s .args .from) (s .args .s .now)), end) in
+    (sym (decimals-two f (sym (r .read-whole .ensures .0) ∙ w .whole .given .1) l), λ v e. end)
 
--- src/hundredths.rt:27:1
 returns-4 : tie.Need-returns-4
-unfolding decimals
 returns-4 c =
-    let call = c .before .before in
-    simp (le-ltb _ _ (call .before .if1 .left), sym (call .read-whole .ensures), c .enum-told .given .1)
+    let w = c .before .before .before in
+    let r = w .before .before in
+    let s = r .before .before in
+    let end = r .read-whole .ensures .1 _ (w .whole .given .1) in
+    let l = part-length 32 refl (drop (s .args .from) (s .args .s .now)) in
+    (
+      sym (decimals-more (fieldAt (s .args .s .now) (s .args .from)) (sym (r .read-whole .ensures .0) ∙ w .whole .given .1) (λ z. c .before .if1 .left (omega (arith, z, l, end))) (λ z. c .if2 .left (omega (arith, z, l, end)))),
+      λ v e. no-whole e,
+    )
 
 pub read-decimals-spec : {M : Type 1} → statement M
 read-decimals-spec =
     tie.close
     (tie.spec
+    (λ c κs. search needs)
+    (λ c. search needs)
+    (λ c. search needs)
     returns
-    read-whole-requires
-    enum-known-w
-    mul-t9
+    (λ c. search needs)
+    mul-t10
     returns-2
-    enum-told
+    (λ c. search needs)
     returns-3
     returns-4)
