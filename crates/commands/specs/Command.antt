@@ -2,7 +2,9 @@
 use Prim.Native.Nat.{ℕ}
 use mathlib.Core.Bool.{Bool, true, false, cond, _&&_}
 use mathlib.Core.List.{List, [], _∷_}
-use lib.Dec.{eqb}
+use lib.Dec.{eqb, ltb}
+use lib.ListN.{length, drop}
+use Rattle.text.specs.Scan.{emptyOr}
 use Rattle.commands.specs.declared.command.Command.{Command}
 use Rattle.commands.specs.declared.command.Command.the-variants.{Lnt, Snt, Lnd, Snd, Lnl, Snl, Lnib, Lnob, Snob, Lnid, Lnod, Snod, Lnbb, Snbb, Lnbd, Snbd}
 use Rattle.commands.specs.declared.command.Named.{Named}
@@ -49,6 +51,10 @@ among (c ∷ cs) s = cond (same s (nameOf c)) (Is c) (among cs s)
 
 unfoldable pub commandOf : List ℕ → Named
 commandOf s = among commands s
+
+-- where a name of three or four letters at the front of a text ends, which SP or the text's end follows; 0 for none
+abbrev pub nameEnd : List ℕ → ℕ
+nameEnd s = cond (ltb (length s) 3) 0 (cond (emptyOr 32 (drop 3 s)) 3 (cond (emptyOr 32 (drop 4 s)) 4 0))
 
 -- an LN: no data are given, and data of this kind are replied
 abbrev pub loads : Kind → ℕ → ℕ → Rule

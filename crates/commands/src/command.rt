@@ -1,11 +1,15 @@
 // The sixteen commands: their names, compared and written as fixed byte strings, and the table of document
 // 01 that gives each command's fields and the range of its number (that of LND as document 02 has it, E2).
 use text::put::put_bytes;
+use text::scan::is_end;
 ghost use mathlib.Core.Path.{_≡_};
 ghost use Prim.Native.Nat.{_≤_, _+_};
 ghost use lib.ListN.{length};
 ghost use Rattle.text.specs.Put.{Put};
-ghost use Rattle.commands.specs.Command.{same, nameOf, commandOf, loads, stores, ruleOf};
+ghost use Rattle.text.specs.Scan.{fieldAt, endAt};
+ghost use Rattle.commands.specs.declared.command.Command.{Command};
+ghost use Rattle.commands.specs.declared.command.Named.the-variants.{Is};
+ghost use Rattle.commands.specs.Command.{same, nameOf, commandOf, nameEnd, loads, stores, ruleOf};
 
 // A command, by its name.
 pub enum Command {
@@ -114,7 +118,7 @@ fn is_long(name: &[u8], long: [u8; 4]) -> bool
 }
 
 // The command that a name is.
-pub fn command_of(name: &[u8]) -> Named
+fn command_of(name: &[u8]) -> Named
     ensures { λ r. ⌜ r ≡ commandOf (now (name .entry)) ⌝ }
 {
     if is_short(name, LNT) {
@@ -166,6 +170,40 @@ pub fn command_of(name: &[u8]) -> Named
         return Named::Is(Command::Snbd);
     }
     Named::Unknown
+}
+
+// What the name at the front of a body is, and where it ends. The end of an unknown one is not looked for.
+pub struct NameField {
+    pub name: Named,
+    pub end: usize,
+}
+
+// Where a name of three or four letters ends; 0 where neither ends at SP or at the end of s.
+fn name_end(s: &[u8]) -> usize
+    ensures { λ r. ⌜ r ≡ nameEnd (now (s .entry)) ⌝ }
+{
+    if s.len() < 3 {
+        return 0;
+    }
+    if is_end(s, 3) {
+        return 3;
+    }
+    if is_end(s, 4) {
+        return 4;
+    }
+    0
+}
+
+// Reads the name at the front of a body, in its place.
+pub fn read_name(s: &[u8]) -> NameField
+    ensures { λ r. ⌜ r .name ≡ commandOf (fieldAt (now (s .entry)) 0) ⌝ }
+    ensures { λ r. ⌜ ((k : Command) → r .name ≡ Is k → r .end ≡ endAt (now (s .entry)) 0) ⌝ }
+{
+    let end = name_end(s);
+    NameField {
+        name: command_of(&s[..end]),
+        end,
+    }
 }
 
 // Writes a name of three letters.

@@ -145,6 +145,11 @@ module _ (a : ℕ) (nd : isDigit a ≡ false) where
         go true e = rw (part-length, lt-leb 1 (before a s) (omega (arith, digits-end e)))
         go false e = whole-other e
 
+-- ---- a field that does not end at e goes on
+
+pub inside : (s : List ℕ) (e : ℕ) → e ≤ length s → false ≡ emptyOr 32 (drop e s) → e < length s
+inside s e l r = lt-of-le-ne l (λ z. false-true (r ∙ rw (over s e (omega arith))))
+
 -- ---- where n digits that stand at index i end
 
 pub end-test : (s : List ℕ) (i n : ℕ) {e : ℕ} {t : Bool} → e ≡ i + n → t ≡ emptyOr 32 (drop e s) → emptyOr 32 (drop n (drop i s)) ≡ t
@@ -260,17 +265,14 @@ module _ (s : List ℕ) (i e : ℕ) (q : e ≡ i + digitCount 4 (drop i s)) wher
       (magnitude-whole (drop i s) (some-digits i _ q n) t, omega (arith, digits-end 32 refl (drop i s) t))
 
   module _ (l : e ≤ length s) (r : false ≡ emptyOr 32 (drop e s)) where
-    pub field-inside : e < length s
-    field-inside = lt-of-le-ne l (λ z. false-true (r ∙ rw (over s e (omega arith))))
-
-    inside : digitCount 4 (drop i s) < length (drop i s)
-    inside = omega (arith, field-inside, length-drop i s)
+    within : digitCount 4 (drop i s) < length (drop i s)
+    within = omega (arith, inside s e l r, length-drop i s)
 
     byte : getD (drop i s) (digitCount 4 (drop i s)) 0 ≡ getD s e 0
     byte = getD-drop i s (digitCount 4 (drop i s)) 0 ∙ rw (← q)
 
     pub field-other : (getD s e 0 ≡ 46 → ⊥) → magnitude (fieldAt s i) ≡ Unreadable
-    field-other n = magnitude-other (drop i s) inside (end-test s i (digitCount 4 (drop i s)) q r) (λ z. n (sym byte ∙ z))
+    field-other n = magnitude-other (drop i s) within (end-test s i (digitCount 4 (drop i s)) q r) (λ z. n (sym byte ∙ z))
 
     pub field-point : (e ≡ i → ⊥) → getD s e 0 ≡ 46 → (magnitude (fieldAt s i) ≡ joined (Value (digitValue 4 0 (drop i s))) (decimals (fieldAt s (e + 1)))) × (endAt s (e + 1) ≡ endAt s i)
     field-point n z =
@@ -278,8 +280,8 @@ module _ (s : List ℕ) (i e : ℕ) (q : e ≡ i + digitCount 4 (drop i s)) wher
         let k : i + (digitCount 4 (drop i s) + 1) ≡ e + 1 = omega arith in
         let d : drop (digitCount 4 (drop i s) + 1) (drop i s) ≡ drop (e + 1) s = drop-drop (digitCount 4 (drop i s) + 1) i s ∙ rw k in
         (
-          magnitude-point (drop i s) inside t (some-digits i _ q n) (byte ∙ z) ∙ rw d,
-          omega (arith, rw d at (past (drop i s) inside t)),
+          magnitude-point (drop i s) within t (some-digits i _ q n) (byte ∙ z) ∙ rw d,
+          omega (arith, rw d at (past (drop i s) within t)),
         )
 
 -- ---- a field by its first byte

@@ -7,7 +7,7 @@ use Prim.Native.Nat.{ℕ, _*_}
 use Rattle.text.specs.Hundredths.{joined}
 use Rattle.text.specs.declared.whole.Whole.the-variants.{Value}
 use Rattle.text.specs.declared.hundredths.Magnitude.the-variants.{Size}
-use Rattle.text.proofs.Fields.{field-none, field-whole, field-inside, field-other, field-point, no-magnitude}
+use Rattle.text.proofs.Fields.{field-none, inside, field-whole, field-other, field-point, no-magnitude}
 use Rattle.text.proofs.hundredths.read_magnitude.Statement.{statement}
 use Rattle.text.proofs.hundredths.read_magnitude.Tie as tie
 
@@ -30,7 +30,7 @@ shared-slice-read-if3 c =
     let e = c .before .before in
     let d = e .before .before .before in
     let s = d .before .before in
-    field-inside (s .args .s .now) (s .args .from) (d .read-digits .result .end) (d .read-digits .ensures .0 .0) (d .read-digits .ensures .1 .0) (sym (c .before .if2 .left) ∙ e .is-end .ensures)
+    inside (s .args .s .now) (d .read-digits .result .end) (d .read-digits .ensures .1 .0) (sym (c .before .if2 .left) ∙ e .is-end .ensures)
 
 returns-3 : tie.Need-returns-3
 returns-3 c =
@@ -47,7 +47,7 @@ read-decimals-requires c κs =
     let e = c .before .before .before in
     let d = e .before .before .before in
     let s = d .before .before in
-    omega (arith, field-inside (s .args .s .now) (s .args .from) (d .read-digits .result .end) (d .read-digits .ensures .0 .0) (d .read-digits .ensures .1 .0) (sym (c .before .before .if2 .left) ∙ e .is-end .ensures))
+    omega (arith, inside (s .args .s .now) (d .read-digits .result .end) (d .read-digits .ensures .1 .0) (sym (c .before .before .if2 .left) ∙ e .is-end .ensures))
 
 returns-4 : tie.Need-returns-4
 returns-4 c =
