@@ -15,6 +15,7 @@ use Rattle.commands.specs.declared.command.Kind.the-variants as kind
 use Rattle.commands.specs.declared.command.Rule.{Rule}
 use Rattle.commands.specs.declared.request.Row.{Row}
 use Rattle.commands.specs.Request.{one}
+use Rattle.data.specs.declared.field.Field.the-variants as field
 use Rattle.data.specs.Ranges.{countOf, limitsOf, inRange, eachInRange, allInRange, judge}
 
 pub and-left : (s t : Bool) → s && t ≡ true → s ≡ true
@@ -26,6 +27,11 @@ pub and-right : (s t : Bool) → s && t ≡ true → t ≡ true
 and-right true t e = e
 and-right false true e = refl
 and-right false false e = e
+
+-- ---- a malformed field is no value
+
+pub no-value : {A : Type 0} {v : ℤ} → field.Malformed ≡ field.Value v → A
+no-value e = let z : _≡_ {A = ℕ} 0 1 = cc in absurd (omega arith)
 
 -- ---- a value in its kind's range
 

@@ -7,7 +7,6 @@ use commands::command::Kind;
 use commands::request::Row;
 use commands::request::fields_of;
 use commands::request::row_of;
-use frame::fields::end_of;
 use text::put::put_byte;
 ghost use mathlib.Core.Path.{_≡_};
 ghost use Prim.Native.Nat.{_≤_, _+_};
@@ -34,12 +33,13 @@ pub fn read_data(kind: Kind, s: &[u8]) -> Values
         if s.len() < from {
             return Values::Malformed;
         }
-        let end = end_of(s, from);
-        let Field::Value(v) = read_field(kind, &s[from..end]) else {
+        let read = read_field(kind, s, from);
+        let field = read.field;
+        let Field::Value(v) = field else {
             return Values::Malformed;
         };
         values[i] = v;
-        from = end + 1;
+        from = read.end + 1;
         i += 1;
     }
     if from <= s.len() {

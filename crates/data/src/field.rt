@@ -10,8 +10,11 @@ use text::whole::put_shortest;
 use text::whole::read_whole;
 ghost use mathlib.Core.Path.{_≡_};
 ghost use Prim.Native.Nat.{_≤_, _+_};
+ghost use lib.IntN.{ℤ};
 ghost use lib.ListN.{length};
 ghost use Rattle.text.specs.Put.{Put};
+ghost use Rattle.text.specs.Scan.{fieldAt, endAt};
+ghost use Rattle.data.specs.declared.field.Field.the-variants.{Value};
 ghost use Rattle.data.specs.Data.{readHundredthsField, readWholeField, readField, digitsOf, fieldText};
 
 // What a field is as a value.
@@ -20,36 +23,64 @@ pub enum Field {
     Malformed,
 }
 
-fn hundredths_field(field: &[u8]) -> Field
-    ensures { λ r. ⌜ r ≡ readHundredthsField (now (field .entry)) ⌝ }
+// That, and where the field ends. The end of a malformed one is not looked for.
+pub struct ValueField {
+    pub field: Field,
+    pub end: usize,
+}
+
+fn hundredths_field(s: &[u8], from: usize) -> ValueField
+    requires { ⌜ from ≤ length (now s) ⌝ }
+    ensures { λ r. ⌜ r .field ≡ readHundredthsField (fieldAt (now (s .entry)) from) ⌝ }
+    ensures { λ r. ⌜ ((v : ℤ) → r .field ≡ Value v → r .end ≡ endAt (now (s .entry)) from) ⌝ }
 {
-    let h = read_hundredths(field);
-    match h {
-        Hundredths::Value(v) => Field::Value(v),
-        Hundredths::Malformed => Field::Malformed,
+    let read = read_hundredths(s, from);
+    let end = read.end;
+    let hundredths = read.hundredths;
+    match hundredths {
+        Hundredths::Value(v) => ValueField {
+            field: Field::Value(v),
+            end,
+        },
+        Hundredths::Malformed => ValueField {
+            field: Field::Malformed,
+            end,
+        },
     }
 }
 
-fn whole_field(field: &[u8]) -> Field
-    ensures { λ r. ⌜ r ≡ readWholeField (now (field .entry)) ⌝ }
+fn whole_field(s: &[u8], from: usize) -> ValueField
+    requires { ⌜ from ≤ length (now s) ⌝ }
+    ensures { λ r. ⌜ r .field ≡ readWholeField (fieldAt (now (s .entry)) from) ⌝ }
+    ensures { λ r. ⌜ ((v : ℤ) → r .field ≡ Value v → r .end ≡ endAt (now (s .entry)) from) ⌝ }
 {
-    let w = read_whole(field);
-    match w {
-        Whole::Value(v) => Field::Value(v as i32),
-        Whole::Malformed => Field::Malformed,
+    let read = read_whole(s, from);
+    let end = read.end;
+    let whole = read.whole;
+    match whole {
+        Whole::Value(v) => ValueField {
+            field: Field::Value(v as i32),
+            end,
+        },
+        Whole::Malformed => ValueField {
+            field: Field::Malformed,
+            end,
+        },
     }
 }
 
-// Reads one field as a value of a kind.
-pub fn read_field(kind: Kind, field: &[u8]) -> Field
-    ensures { λ r. ⌜ r ≡ readField kind (now (field .entry)) ⌝ }
+// Reads the field at `from` as a value of a kind.
+pub fn read_field(kind: Kind, s: &[u8], from: usize) -> ValueField
+    requires { ⌜ from ≤ length (now s) ⌝ }
+    ensures { λ r. ⌜ r .field ≡ readField kind (fieldAt (now (s .entry)) from) ⌝ }
+    ensures { λ r. ⌜ ((v : ℤ) → r .field ≡ Value v → r .end ≡ endAt (now (s .entry)) from) ⌝ }
 {
     match kind {
-        Kind::Timer => hundredths_field(field),
-        Kind::Row => hundredths_field(field),
-        Kind::Register => whole_field(field),
-        Kind::Signal => whole_field(field),
-        Kind::Port => whole_field(field),
+        Kind::Timer => hundredths_field(s, from),
+        Kind::Row => hundredths_field(s, from),
+        Kind::Register => whole_field(s, from),
+        Kind::Signal => whole_field(s, from),
+        Kind::Port => whole_field(s, from),
     }
 }
 

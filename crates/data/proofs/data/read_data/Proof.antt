@@ -10,11 +10,13 @@ use native.Mathlib.Numerals.{add-one}
 use native.Mathlib.Nat.{sub-zero}
 use borrow.Author.Tests.{le-ltb, lt-ltb}
 use borrow.Author.Needs.{needs}
-use lib.Dec.{ltb}
+use lib.Arith.{lt-of-le-ne}
+use lib.Dec.{ltb, eqb}
 use lib.IntN.{ℤ, pos}
-use lib.ListN.{length, set, take, drop, length-drop}
+use lib.ListN.{length, set, drop, length-drop}
 use lib.Seq.{sets, drop-drop}
-use Rattle.text.specs.Scan.{before}
+use Rattle.text.specs.Scan.{before, fieldAt, endAt}
+use Rattle.text.proofs.Fields.{until-within}
 use Rattle.text.proofs.Signed.{i32-back}
 use Rattle.frame.specs.Fields.{fields}
 use Rattle.frame.proofs.Laws.{fields-only, fields-next}
@@ -44,15 +46,18 @@ module _ (s : List ℕ) (p : ℕ) where
   unfolding left
   none-left h = rw (lt-ltb (length s) p h)
 
--- the next field ends at e
-next-left : (s : List ℕ) (p e : ℕ) → p ≤ length s → e ≡ p + before 32 (drop p s) → e ≤ length s → left s p ≡ take (e - p) (drop p s) ∷ left s (e + 1)
-next-left s p e h q l = some-left s p h ∙ go (ℕ-discrete e (length s))
+-- the next field, and those behind it
+next-left : (s : List ℕ) (p : ℕ) → p ≤ length s → left s p ≡ fieldAt s p ∷ left s (endAt s p + 1)
+next-left s p h = some-left s p h ∙ go (ℕ-discrete (endAt s p) (length s)) (until-within (λ b. eqb b 32) (drop p s))
   where
-    go : Dec (e ≡ length s) → fields (drop p s) ≡ take (e - p) (drop p s) ∷ left s (e + 1)
-    go (yes z) = fields-only (drop p s) (e - p) (omega arith) (omega (arith, length-drop p s))
-        ∙ ap (λ t. take (e - p) (drop p s) ∷ t) (sym (none-left s (e + 1) (omega arith)))
-    go (no n) = fields-next (drop p s) (e - p) (omega arith) (λ z. n (omega (arith, z, length-drop p s)))
-        ∙ ap (λ t. take (e - p) (drop p s) ∷ t) (rw (drop-drop (e - p + 1) p s) (let m : p + (e - p + 1) ≡ e + 1 = omega arith in rw m (sym (some-left s (e + 1) (omega arith)))))
+    go : Dec (endAt s p ≡ length s) → before 32 (drop p s) ≤ length (drop p s) → fields (drop p s) ≡ fieldAt s p ∷ left s (endAt s p + 1)
+    go (yes z) w = fields-only (drop p s) (before 32 (drop p s)) (omega arith) (omega (arith, length-drop p s))
+        ∙ ap (λ t. fieldAt s p ∷ t) (sym (none-left s (endAt s p + 1) (omega arith)))
+    go (no n) w =
+        let l : endAt s p < length s = lt-of-le-ne (omega (arith, length-drop p s)) n in
+        let m : p + (before 32 (drop p s) + 1) ≡ endAt s p + 1 = omega arith in
+        fields-next (drop p s) (before 32 (drop p s)) (omega arith) (λ z. n (omega (arith, z, length-drop p s)))
+        ∙ ap (λ t. fieldAt s p ∷ t) (rw (drop-drop (before 32 (drop p s) + 1) p s, m) (sym (some-left s (endAt s p + 1) (omega arith))))
 
 -- ---- values read into an array from index i on
 
@@ -110,12 +115,12 @@ module _ {k : Kind} {s : List ℕ} {n : ℕ} {xs : List ℤ} {i p : ℕ} (h : Be
       let e : n - i ≡ suc (n - (i + 1)) = omega arith in
       sym (h .rest ∙ rw (e, none-left s p m))
 
-  -- the next field, which f is, ends at e
-  next : {e : ℕ} → i < n → p ≤ length s → e ≡ p + before 32 (drop p s) → e ≤ length s → (f : Field) → f ≡ readField k (take (e - p) (drop p s)) → readData k (fields s) ≡ filled xs i (withFirst f (readFields k (n - (i + 1)) (left s (e + 1))))
+  -- the next field is f
+  next : i < n → p ≤ length s → (f : Field) → f ≡ readField k (fieldAt s p) → readData k (fields s) ≡ filled xs i (withFirst f (readFields k (n - (i + 1)) (left s (endAt s p + 1))))
   unfolding readFields
-  next {e} l m q r f t =
+  next l m f t =
       let d : n - i ≡ suc (n - (i + 1)) = omega arith in
-      h .rest ∙ rw (d, next-left s p e m q r, t)
+      h .rest ∙ rw (d, next-left s p m, t)
 
   surplus : n ≤ i → p ≤ length s → Malformed ≡ readData k (fields s)
   unfolding readFields filled fields
@@ -148,26 +153,33 @@ returns-2 : tie.Need-returns-2 Inv-loop μ-loop
 unfolding filled
 returns-2 c =
     let f = c .before .before in
-    let e = f .before .before in
-    let l = e .before .before .before in
-    sym (next (l .loop .inv) (e .before .before .loop-test .taken) (e .before .if1 .left) (e .end-of .ensures .0) (e .end-of .ensures .1) field.Malformed (sym (c .enum-told .given .1) ∙ f .read-field .ensures))
+    let l = f .before .before .before in
+    sym (next (l .loop .inv) (f .before .before .loop-test .taken) (f .before .if1 .left) field.Malformed (sym (c .enum-told .given .1) ∙ f .read-field .ensures .0))
 
 array-set-from-values : tie.Need-array-set-from-values Inv-loop μ-loop
 array-set-from-values c =
-    let n = c .before .before .before .before .before .before .before .before .before in
+    let n = c .before .before .before .before .before .before .before in
     omega (arith, n .count-of .ensures, few-values (n .before .before .args .kind))
+
+add-from : tie.Need-add-from Inv-loop μ-loop
+add-from c =
+    let v = c .before .before in
+    let f = v .before .before in
+    let l = f .before .before .before in
+    let s = l .before .before .before .args .s .now in
+    let e : f .read-field .result .end ≤ length s = omega (arith, f .read-field .ensures .1 _ (v .field .given .1), until-within (λ b. eqb b 32) (drop (l .loop .from) s), length-drop (l .loop .from) s, f .before .if1 .left) in
+    search needs
 
 loop-again : tie.Need-loop-again Inv-loop μ-loop
 loop-again c =
-    let v = c .before in
+    let v = c .before .before in
     let f = v .before .before in
-    let e = f .before .before in
-    let l = e .before .before .before in
+    let l = f .before .before .before in
     record {
       most = omega arith;
       rest =
-          next (l .loop .inv) (e .before .before .loop-test .taken) (e .before .if1 .left) (e .end-of .ensures .0) (e .end-of .ensures .1) (field.Value (v .v .given .0 .0)) (sym (v .v .given .1) ∙ f .read-field .ensures)
-          ∙ rw (i32-back (v .v .given .0 .0) (c .known-told .given .0 .1)) (one-filled (l .loop .values) (l .loop .i) (v .v .given .0 .0) _);
+          next (l .loop .inv) (f .before .before .loop-test .taken) (f .before .if1 .left) (field.Value (v .field .given .0 .0)) (sym (v .field .given .1) ∙ f .read-field .ensures .0)
+          ∙ rw (i32-back (v .field .given .0 .0) (c .before .known-told .given .0 .1), f .read-field .ensures .1 _ (v .field .given .1)) (one-filled (l .loop .values) (l .loop .i) (v .field .given .0 .0) _);
     }
 
 returns-3 : tie.Need-returns-3 Inv-loop μ-loop
@@ -192,14 +204,10 @@ read-data-spec =
     (λ c κs. search needs)
     (λ c. search needs)
     (λ c. search needs)
-    (λ c. search needs)
-    (λ c κs. search needs)
-    (λ c. search needs)
-    (λ c. search needs)
     returns-2
     (λ c. omega (arith, array-set-from-values c))
     array-set-from-values
-    (λ c. search needs)
+    add-from
     (λ c. omega arith)
     (λ c. omega arith)
     loop-again

@@ -4,6 +4,7 @@ use mir.Facts.{toZ-ofZ}
 use mir.Syntax.{w32}
 use mir.Val.{SFits}
 use Rattle.data.specs.Data.{asHundredths}
+use Rattle.data.proofs.Bounds.{no-value}
 use Rattle.data.proofs.field.hundredths_field.Statement.{statement}
 use Rattle.data.proofs.field.hundredths_field.Tie as tie
 
@@ -11,11 +12,13 @@ returns : tie.Need-returns
 returns c =
     let h = c .before in
     let r = h .before .before in
-    let f : SFits w32 (h .h .given .0 .0) = record { sfits = c .known-told .given .0 .1 } in
-    rw (toZ-ofZ f) (ap asHundredths (sym (h .h .given .1) ∙ r .read-hundredths .ensures))
+    let f : SFits w32 (h .hundredths .given .0 .0) = record { sfits = c .known-told .given .0 .1 } in
+    (rw (toZ-ofZ f) (ap asHundredths (sym (h .hundredths .given .1) ∙ r .read-hundredths .ensures .0)), λ v e. r .read-hundredths .ensures .1 _ (h .hundredths .given .1))
 
 returns-2 : tie.Need-returns-2
-returns-2 c = ap asHundredths (sym (c .enum-told .given .1) ∙ c .before .before .read-hundredths .ensures)
+returns-2 c =
+    let r = c .before .before in
+    (ap asHundredths (sym (c .enum-told .given .1) ∙ r .read-hundredths .ensures .0), λ v e. no-value e)
 
 pub hundredths-field-spec : {M : Type 1} → statement M
 hundredths-field-spec =
