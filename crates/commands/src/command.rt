@@ -198,6 +198,7 @@ fn name_end(s: &[u8]) -> usize
 pub fn read_name(s: &[u8]) -> NameField
     ensures { λ r. ⌜ r .name ≡ commandOf (fieldAt (now (s .entry)) 0) ⌝ }
     ensures { λ r. ⌜ ((k : Command) → r .name ≡ Is k → r .end ≡ endAt (now (s .entry)) 0) ⌝ }
+    ensures { λ r. ⌜ r .end ≤ length (now (s .entry)) ⌝ }
 {
     let end = name_end(s);
     NameField {

@@ -2,8 +2,8 @@
 use commands::command::Command;
 use commands::command::Named;
 use commands::command::Rule;
-use commands::command::command_of;
 use commands::command::put_name;
+use commands::command::read_name;
 use commands::command::rule_of;
 use commands::request::Parts;
 use commands::request::Request;
@@ -13,7 +13,6 @@ use data::data::Values;
 use data::data::put_data;
 use data::data::read_data;
 use data::ranges::judge_parts;
-use frame::fields::end_of;
 use text::put::put_byte;
 use text::whole::Whole;
 use text::whole::put_shortest;
@@ -43,8 +42,10 @@ pub enum Judged {
 fn read_shape(rule: Rule, s: &[u8]) -> Shape
     ensures { λ r. ⌜ r ≡ readShape rule (fields (now (s .entry))) ⌝ }
 {
-    let end = end_of(s, 0);
-    let Whole::Value(n) = read_whole(&s[..end]) else {
+    let read = read_whole(s, 0);
+    let end = read.end;
+    let whole = read.whole;
+    let Whole::Value(n) = whole else {
         return Shape::Malformed;
     };
     if end == s.len() {
@@ -93,8 +94,10 @@ fn request_or_refusal(command: Command, rule: Rule, n: u16, row: Row) -> Judged
 pub fn read_body(body: &[u8]) -> Judged
     ensures { λ r. ⌜ r ≡ readBody (now (body .entry)) ⌝ }
 {
-    let end = end_of(body, 0);
-    let Named::Is(command) = command_of(&body[..end]) else {
+    let read = read_name(body);
+    let end = read.end;
+    let name = read.name;
+    let Named::Is(command) = name else {
         return Judged::Refused(9, false);
     };
     let rule = rule_of(command);

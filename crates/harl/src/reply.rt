@@ -9,9 +9,8 @@ use data::data::read_data;
 use data::ranges::all_in_range;
 use text::put::put_byte;
 use text::put::put_bytes;
-use text::whole::Whole;
 use text::whole::put_two_digits;
-use text::whole::read_whole;
+use text::whole::read_digits;
 ghost use mathlib.Core.Path.{_≡_};
 ghost use Prim.Native.Nat.{_≤_, _+_};
 ghost use lib.ListN.{length};
@@ -195,11 +194,11 @@ fn read_status(s: &[u8]) -> Carried
     if s.len() != 2 {
         return Carried::Nothing;
     }
-    let w = read_whole(s);
-    match w {
-        Whole::Value(v) => Carried::Outcome(Outcome::Status(v as u8)),
-        Whole::Malformed => Carried::Nothing,
+    let digits = read_digits(s, 0);
+    if digits.end != 2 {
+        return Carried::Nothing;
     }
+    Carried::Outcome(Outcome::Status(digits.value as u8))
 }
 
 // Reads the reply to an LN: "E" and a status, or data in range.

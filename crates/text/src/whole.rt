@@ -66,6 +66,7 @@ pub fn read_whole(s: &[u8], from: usize) -> WholeField
     requires { ⌜ from ≤ length (now s) ⌝ }
     ensures { λ r. ⌜ r .whole ≡ readWhole (fieldAt (now (s .entry)) from) ⌝ }
     ensures { λ r. ⌜ ((v : ℕ) → r .whole ≡ Value v → r .end ≡ endAt (now (s .entry)) from) ⌝ }
+    ensures { λ r. ⌜ r .end ≤ length (now (s .entry)) ⌝ }
 {
     let digits = read_digits(s, from);
     let end = digits.end;

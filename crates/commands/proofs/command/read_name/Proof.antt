@@ -21,7 +21,7 @@ returns c =
     let e = c .before .before in
     let s = e .before .before .args .s .now in
     let n = c .command-of .ensures ∙ ap (λ (m : ℕ). commandOf (take m s)) (e .name-end .ensures) in
-    (n ∙ name-read s, λ k q. let z = name-ends s k (sym n ∙ q) in omega (arith, e .name-end .ensures, z))
+    (n ∙ name-read s, (λ k q. let z = name-ends s k (sym n ∙ q) in omega (arith, e .name-end .ensures, z), rw (e .name-end .ensures) (end-within s)))
 
 pub read-name-spec : {M : Type 1} → statement M
 read-name-spec =

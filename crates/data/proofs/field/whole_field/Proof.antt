@@ -12,7 +12,7 @@ returns : tie.Need-returns
 returns c =
     let w = c .before in
     let r = w .before .before in
-    (rw (toZ-pos w32 {n = w .whole .given .0 .0} (omega arith)) (ap asWhole (sym (w .whole .given .1) ∙ r .read-whole .ensures .0)), λ v e. r .read-whole .ensures .1 _ (w .whole .given .1))
+    (rw (toZ-pos w32 {n = w .whole .given .0 .0} (omega arith)) (ap asWhole (sym (w .whole .given .1) ∙ r .read-whole .ensures .0)), λ v e. r .read-whole .ensures .1 .0 _ (w .whole .given .1))
 
 returns-2 : tie.Need-returns-2
 returns-2 c =

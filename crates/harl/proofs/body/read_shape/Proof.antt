@@ -1,11 +1,11 @@
--- `e` is where the number's end was found, `read` where it was read, `n` the number, and `d` where the data were read.
+-- `read` is where the number was read, `n` the number, and `d` where the data were read.
 use Prim.Native.Nat.{ℕ, _+_}
 use mathlib.Core.Path.{_≡_, sym, _∙_}
 use mathlib.Core.List.{List, []}
+use native.Mathlib.Omega.{arith}
 use borrow.Author.Needs.{needs}
 use lib.ListN.{length, take, drop}
-use lib.Seq.{length-take-le}
-use Rattle.text.specs.Scan.{before}
+use Rattle.text.specs.Scan.{before, fieldAt, endAt}
 use Rattle.text.specs.Whole.{readWhole}
 use Rattle.text.specs.declared.whole.Whole.the-variants as whole
 use Rattle.frame.specs.Fields.{fields}
@@ -25,124 +25,84 @@ no-data : (k : Kind) → readData k [] ≡ values.Malformed
 unfolding readFields
 no-data k = rw (some-value k .1)
 
-module _ (rule : Rule) (s : List ℕ) (e : ℕ) (q : e ≡ 0 + before 32 s) where
-  unread : readWhole (take e s) ≡ whole.Malformed → readShape rule (fields s) ≡ shape.Malformed
+module _ (rule : Rule) (s : List ℕ) where
+  unread : readWhole (fieldAt s 0) ≡ whole.Malformed → readShape rule (fields s) ≡ shape.Malformed
   unfolding readShape
-  unread w = rw (fields-first s e q, w)
+  unread w = rw (fields-first s (before 32 s) (omega arith), w)
 
-  alone : (n : ℕ) → readWhole (take e s) ≡ whole.Value n → e ≡ length s → readShape rule (fields s) ≡ numbered (whole.Value n) (dataShape (rule .store) (rule .kind) [])
-  unfolding readShape
-  alone n w h = rw (fields-only s e q h, w)
+  module _ {e n : ℕ} (w : readWhole (fieldAt s 0) ≡ whole.Value n) (q : e ≡ endAt s 0) where
+    number : readWhole (take e s) ≡ whole.Value n
+    number = let k : e ≡ before 32 s = omega arith in rw k w
 
-  followed : (n : ℕ) → readWhole (take e s) ≡ whole.Value n → (e ≡ length s → ⊥) → readShape rule (fields s) ≡ numbered (whole.Value n) (dataShape (rule .store) (rule .kind) (fields (drop (e + 1) s)))
-  unfolding readShape
-  followed n w h = rw (fields-next s e q h, w)
+    alone : e ≡ length s → readShape rule (fields s) ≡ numbered (whole.Value n) (dataShape (rule .store) (rule .kind) [])
+    unfolding readShape
+    alone h = rw (fields-only s e q h, number)
 
-end-of-requires : tie.Need-end-of-requires
-end-of-requires c κs = search needs
-
-slice-aggregate-read-whole : tie.Need-slice-aggregate-read-whole
-slice-aggregate-read-whole c = sym (length-take-le (c .before .end-of .result) (c .before .before .before .args .s .now) (c .before .end-of .ensures .1))
-
-read-whole-requires : tie.Need-read-whole-requires
-read-whole-requires c κs = search needs
-
-enum-known-n : tie.Need-enum-known-n
-enum-known-n c = search needs
-
-enum-told : tie.Need-enum-told
-enum-told c = search needs
+    followed : (e ≡ length s → ⊥) → readShape rule (fields s) ≡ numbered (whole.Value n) (dataShape (rule .store) (rule .kind) (fields (drop (e + 1) s)))
+    unfolding readShape
+    followed h = rw (fields-next s e q h, number)
 
 returns : tie.Need-returns
 returns c =
     let read = c .before .before in
-    let e = read .before .before in
-    let a = e .before .before .args in
-    sym (unread (a .rule) (a .s .now) (e .end-of .result) (e .end-of .ensures .0) (sym (read .read-whole .ensures) ∙ c .enum-told .given .1))
+    let a = read .before .before .args in
+    sym (unread (a .rule) (a .s .now) (sym (read .read-whole .ensures .0) ∙ c .enum-told .given .1))
 
 returns-2 : tie.Need-returns-2
 returns-2 c =
     let n = c .before .before .before in
     let read = n .before .before in
-    let e = read .before .before in
-    let a = e .before .before .args in
-    rw (alone (a .rule) (a .s .now) (e .end-of .result) (e .end-of .ensures .0) (n .n .given .0 .0) (sym (read .read-whole .ensures) ∙ n .n .given .1) (c .before .if1 .taken), c .if2 .taken, no-data)
+    let a = read .before .before .args in
+    rw (alone (a .rule) (a .s .now) (sym (read .read-whole .ensures .0) ∙ n .whole .given .1) (read .read-whole .ensures .1 .0 _ (n .whole .given .1)) (c .before .if1 .taken), c .if2 .taken, no-data)
 
 returns-3 : tie.Need-returns-3
 returns-3 c =
     let n = c .before .before .before in
     let read = n .before .before in
-    let e = read .before .before in
-    let a = e .before .before .args in
-    rw (alone (a .rule) (a .s .now) (e .end-of .result) (e .end-of .ensures .0) (n .n .given .0 .0) (sym (read .read-whole .ensures) ∙ n .n .given .1) (c .before .if1 .taken), c .if2 .left)
-
-add-from : tie.Need-add-from
-add-from c = search needs
-
-sub-read-data : tie.Need-sub-read-data
-sub-read-data c = search needs
-
-part-read-data-start : tie.Need-part-read-data-start
-part-read-data-start c = search needs
-
-part-read-data-end : tie.Need-part-read-data-end
-part-read-data-end c = search needs
-
-read-data-requires : tie.Need-read-data-requires
-read-data-requires c κs = search needs
-
-enum-known-values : tie.Need-enum-known-values
-enum-known-values c = search needs
-
-enum-told-2 : tie.Need-enum-told-2
-enum-told-2 c = search needs
+    let a = read .before .before .args in
+    rw (alone (a .rule) (a .s .now) (sym (read .read-whole .ensures .0) ∙ n .whole .given .1) (read .read-whole .ensures .1 .0 _ (n .whole .given .1)) (c .before .if1 .taken), c .if2 .left)
 
 returns-4 : tie.Need-returns-4
 returns-4 c =
     let d = c .before .before .before in
     let n = d .before .before .before .before .before in
     let read = n .before .before in
-    let e = read .before .before in
-    let a = e .before .before .args in
-    rw (followed (a .rule) (a .s .now) (e .end-of .result) (e .end-of .ensures .0) (n .n .given .0 .0) (sym (read .read-whole .ensures) ∙ n .n .given .1) (d .before .before .before .if1 .left), d .before .before .if3 .taken, ← rest (e .end-of .result + 1) (a .s .now), ← d .read-data .ensures, c .before .values .given .1)
+    let a = read .before .before .args in
+    rw (followed (a .rule) (a .s .now) (sym (read .read-whole .ensures .0) ∙ n .whole .given .1) (read .read-whole .ensures .1 .0 _ (n .whole .given .1)) (d .before .before .before .if1 .left), d .before .before .if3 .taken, ← rest (read .read-whole .result .end + 1) (a .s .now), ← d .read-data .ensures, c .before .values .given .1)
 
 returns-5 : tie.Need-returns-5
 returns-5 c =
     let d = c .before .before in
     let n = d .before .before .before .before .before in
     let read = n .before .before in
-    let e = read .before .before in
-    let a = e .before .before .args in
-    rw (followed (a .rule) (a .s .now) (e .end-of .result) (e .end-of .ensures .0) (n .n .given .0 .0) (sym (read .read-whole .ensures) ∙ n .n .given .1) (d .before .before .before .if1 .left), d .before .before .if3 .taken, ← rest (e .end-of .result + 1) (a .s .now), ← d .read-data .ensures, c .enum-told2 .given .1)
+    let a = read .before .before .args in
+    rw (followed (a .rule) (a .s .now) (sym (read .read-whole .ensures .0) ∙ n .whole .given .1) (read .read-whole .ensures .1 .0 _ (n .whole .given .1)) (d .before .before .before .if1 .left), d .before .before .if3 .taken, ← rest (read .read-whole .result .end + 1) (a .s .now), ← d .read-data .ensures, c .enum-told2 .given .1)
 
 returns-6 : tie.Need-returns-6
 unfolding fields
 returns-6 c =
     let n = c .before .before .before in
     let read = n .before .before in
-    let e = read .before .before in
-    let a = e .before .before .args in
-    rw (followed (a .rule) (a .s .now) (e .end-of .result) (e .end-of .ensures .0) (n .n .given .0 .0) (sym (read .read-whole .ensures) ∙ n .n .given .1) (c .before .if1 .left), c .if3 .left)
+    let a = read .before .before .args in
+    rw (followed (a .rule) (a .s .now) (sym (read .read-whole .ensures .0) ∙ n .whole .given .1) (read .read-whole .ensures .1 .0 _ (n .whole .given .1)) (c .before .if1 .left), c .if3 .left)
 
 pub read-shape-spec : {M : Type 1} → statement M
 read-shape-spec =
     tie.close
     (tie.spec
-    end-of-requires
-    slice-aggregate-read-whole
-    read-whole-requires
-    enum-known-n
-    enum-told
+    (λ c κs. search needs)
+    (λ c. search needs)
+    (λ c. search needs)
     returns
     returns-2
     returns-3
-    add-from
-    sub-read-data
-    part-read-data-start
-    part-read-data-end
-    read-data-requires
-    enum-known-values
-    enum-told-2
+    (λ c. search needs)
+    (λ c. search needs)
+    (λ c. search needs)
+    (λ c. search needs)
+    (λ c κs. search needs)
+    (λ c. search needs)
+    (λ c. search needs)
     returns-4
     returns-5
     returns-6)

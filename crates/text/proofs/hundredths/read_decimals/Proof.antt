@@ -22,7 +22,7 @@ mul-t10 c =
     let r = w .before .before in
     let s = r .before .before in
     let f = fieldAt (s .args .s .now) (s .args .from) in
-    let l : length f ≡ 1 = omega (arith, part-length 32 refl (drop (s .args .from) (s .args .s .now)), r .read-whole .ensures .1 _ (w .whole .given .1)) in
+    let l : length f ≡ 1 = omega (arith, part-length 32 refl (drop (s .args .from) (s .args .s .now)), r .read-whole .ensures .1 .0 _ (w .whole .given .1)) in
     let b : w .whole .given .0 .0 < 10 ^ length f = subst (Below (10 ^ length f)) (sym (r .read-whole .ensures .0) ∙ w .whole .given .1) (whole-below f) in
     omega (arith, subst (λ (n : ℕ). w .whole .given .0 .0 < 10 ^ n) l b)
 
@@ -31,7 +31,7 @@ returns-2 c =
     let w = c .before .before in
     let r = w .before .before in
     let s = r .before .before in
-    let end = r .read-whole .ensures .1 _ (w .whole .given .1) in
+    let end = r .read-whole .ensures .1 .0 _ (w .whole .given .1) in
     let f = fieldAt (s .args .s .now) (s .args .from) in
     let l : length f ≡ 1 = omega (arith, part-length 32 refl (drop (s .args .from) (s .args .s .now)), end) in
     (sym (decimals-one f (sym (r .read-whole .ensures .0) ∙ w .whole .given .1) l), λ v e. end)
@@ -41,7 +41,7 @@ returns-3 c =
     let w = c .before .before .before in
     let r = w .before .before in
     let s = r .before .before in
-    let end = r .read-whole .ensures .1 _ (w .whole .given .1) in
+    let end = r .read-whole .ensures .1 .0 _ (w .whole .given .1) in
     let f = fieldAt (s .args .s .now) (s .args .from) in
     let l : length f ≡ 2 = omega (arith, part-length 32 refl (drop (s .args .from) (s .args .s .now)), end) in
     (sym (decimals-two f (sym (r .read-whole .ensures .0) ∙ w .whole .given .1) l), λ v e. end)
@@ -51,7 +51,7 @@ returns-4 c =
     let w = c .before .before .before in
     let r = w .before .before in
     let s = r .before .before in
-    let end = r .read-whole .ensures .1 _ (w .whole .given .1) in
+    let end = r .read-whole .ensures .1 .0 _ (w .whole .given .1) in
     let l = part-length 32 refl (drop (s .args .from) (s .args .s .now)) in
     (
       sym (decimals-more (fieldAt (s .args .s .now) (s .args .from)) (sym (r .read-whole .ensures .0) ∙ w .whole .given .1) (λ z. c .before .if1 .left (omega (arith, z, l, end))) (λ z. c .if2 .left (omega (arith, z, l, end)))),
