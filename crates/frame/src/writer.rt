@@ -31,6 +31,5 @@ pub fn close_frame(area: &mut [u8], end: Cursor) -> usize
     ensures { λ r. ⌜ ((t : List ℕ) → end .sum ≡ lrcOf t → PutAt (now (area .entry)) (end .at) (closing t) r (now (area .exit))) ⌝ }
 {
     let last = put_byte(area, end, ETX);
-    let past = put_byte(area, last, last.sum);
-    past.at
+    put_byte(area, last, last.sum).at
 }
