@@ -1,5 +1,6 @@
 // The sixteen commands: their names, compared and written as fixed byte strings, and the table of document
 // 01 that gives each command's fields and the range of its number (that of LND as document 02 has it, E2).
+use text::put::Cursor;
 use text::put::put_bytes;
 use text::scan::is_end;
 ghost use mathlib.Core.Path.{_≡_};
@@ -208,43 +209,43 @@ pub fn read_name(s: &[u8]) -> NameField
 }
 
 // Writes a name of three letters.
-fn put_short(area: &mut [u8], at: usize, short: [u8; 3]) -> usize
-    requires { ⌜ at + 3 ≤ length (now area) ⌝ }
-    ensures { λ r. ⌜ Put (now (area .entry)) at short r (now (area .exit)) ⌝ }
+fn put_short(area: &mut [u8], to: Cursor, short: [u8; 3]) -> Cursor
+    requires { ⌜ to .at + 3 ≤ length (now area) ⌝ }
+    ensures { λ r. ⌜ Put (now (area .entry)) to short r (now (area .exit)) ⌝ }
 {
-    put_bytes(area, at, &short)
+    put_bytes(area, to, &short)
 }
 
 // Writes a name of four letters.
-fn put_long(area: &mut [u8], at: usize, long: [u8; 4]) -> usize
-    requires { ⌜ at + 4 ≤ length (now area) ⌝ }
-    ensures { λ r. ⌜ Put (now (area .entry)) at long r (now (area .exit)) ⌝ }
+fn put_long(area: &mut [u8], to: Cursor, long: [u8; 4]) -> Cursor
+    requires { ⌜ to .at + 4 ≤ length (now area) ⌝ }
+    ensures { λ r. ⌜ Put (now (area .entry)) to long r (now (area .exit)) ⌝ }
 {
-    put_bytes(area, at, &long)
+    put_bytes(area, to, &long)
 }
 
 // Writes a command's name.
-pub fn put_name(area: &mut [u8], at: usize, command: Command) -> usize
-    requires { ⌜ at + length (nameOf command) ≤ length (now area) ⌝ }
-    ensures { λ r. ⌜ Put (now (area .entry)) at (nameOf command) r (now (area .exit)) ⌝ }
+pub fn put_name(area: &mut [u8], to: Cursor, command: Command) -> Cursor
+    requires { ⌜ to .at + length (nameOf command) ≤ length (now area) ⌝ }
+    ensures { λ r. ⌜ Put (now (area .entry)) to (nameOf command) r (now (area .exit)) ⌝ }
 {
     match command {
-        Command::Lnt => put_short(area, at, LNT),
-        Command::Snt => put_short(area, at, SNT),
-        Command::Lnd => put_short(area, at, LND),
-        Command::Snd => put_short(area, at, SND),
-        Command::Lnl => put_short(area, at, LNL),
-        Command::Snl => put_short(area, at, SNL),
-        Command::Lnib => put_long(area, at, LNIB),
-        Command::Lnob => put_long(area, at, LNOB),
-        Command::Snob => put_long(area, at, SNOB),
-        Command::Lnid => put_long(area, at, LNID),
-        Command::Lnod => put_long(area, at, LNOD),
-        Command::Snod => put_long(area, at, SNOD),
-        Command::Lnbb => put_long(area, at, LNBB),
-        Command::Snbb => put_long(area, at, SNBB),
-        Command::Lnbd => put_long(area, at, LNBD),
-        Command::Snbd => put_long(area, at, SNBD),
+        Command::Lnt => put_short(area, to, LNT),
+        Command::Snt => put_short(area, to, SNT),
+        Command::Lnd => put_short(area, to, LND),
+        Command::Snd => put_short(area, to, SND),
+        Command::Lnl => put_short(area, to, LNL),
+        Command::Snl => put_short(area, to, SNL),
+        Command::Lnib => put_long(area, to, LNIB),
+        Command::Lnob => put_long(area, to, LNOB),
+        Command::Snob => put_long(area, to, SNOB),
+        Command::Lnid => put_long(area, to, LNID),
+        Command::Lnod => put_long(area, to, LNOD),
+        Command::Snod => put_long(area, to, SNOD),
+        Command::Lnbb => put_long(area, to, LNBB),
+        Command::Snbb => put_long(area, to, SNBB),
+        Command::Lnbd => put_long(area, to, LNBD),
+        Command::Snbd => put_long(area, to, SNBD),
     }
 }
 

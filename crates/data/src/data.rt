@@ -7,6 +7,7 @@ use commands::command::Kind;
 use commands::request::Row;
 use commands::request::fields_of;
 use commands::request::row_of;
+use text::put::Cursor;
 use text::put::put_byte;
 ghost use mathlib.Core.Path.{_≡_};
 ghost use Prim.Native.Nat.{_≤_, _+_};
@@ -49,13 +50,13 @@ pub fn read_data(kind: Kind, s: &[u8]) -> Values
 }
 
 // Writes data of a kind.
-pub fn put_data(area: &mut [u8], at: usize, kind: Kind, row: Row) -> usize
-    requires { ⌜ at + length (dataText kind row) ≤ length (now area) ⌝ }
-    ensures { λ r. ⌜ Put (now (area .entry)) at (dataText kind row) r (now (area .exit)) ⌝ }
+pub fn put_data(area: &mut [u8], to: Cursor, kind: Kind, row: Row) -> Cursor
+    requires { ⌜ to .at + length (dataText kind row) ≤ length (now area) ⌝ }
+    ensures { λ r. ⌜ Put (now (area .entry)) to (dataText kind row) r (now (area .exit)) ⌝ }
 {
     let values = fields_of(row);
     let count = count_of(kind);
-    let mut end = put_field(area, at, kind, values[0]);
+    let mut end = put_field(area, to, kind, values[0]);
     let mut i = 1;
     while i < count {
         let from = put_byte(area, end, b' ');

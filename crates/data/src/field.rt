@@ -4,6 +4,7 @@ use text::hundredths::Hundredths;
 use text::hundredths::put_hundredths;
 use text::hundredths::read_hundredths;
 use text::hundredths::unsigned_abs;
+use text::put::Cursor;
 use text::whole::Whole;
 use text::whole::put_padded;
 use text::whole::put_shortest;
@@ -92,15 +93,15 @@ fn digits_of(v: i32) -> u16
 }
 
 // Writes a value of a kind.
-pub fn put_field(area: &mut [u8], at: usize, kind: Kind, v: i32) -> usize
-    requires { ⌜ at + length (fieldText kind v) ≤ length (now area) ⌝ }
-    ensures { λ r. ⌜ Put (now (area .entry)) at (fieldText kind v) r (now (area .exit)) ⌝ }
+pub fn put_field(area: &mut [u8], to: Cursor, kind: Kind, v: i32) -> Cursor
+    requires { ⌜ to .at + length (fieldText kind v) ≤ length (now area) ⌝ }
+    ensures { λ r. ⌜ Put (now (area .entry)) to (fieldText kind v) r (now (area .exit)) ⌝ }
 {
     match kind {
-        Kind::Timer => put_hundredths(area, at, v),
-        Kind::Register => put_padded(area, at, digits_of(v)),
-        Kind::Row => put_hundredths(area, at, v),
-        Kind::Signal => put_shortest(area, at, digits_of(v)),
-        Kind::Port => put_shortest(area, at, digits_of(v)),
+        Kind::Timer => put_hundredths(area, to, v),
+        Kind::Register => put_padded(area, to, digits_of(v)),
+        Kind::Row => put_hundredths(area, to, v),
+        Kind::Signal => put_shortest(area, to, digits_of(v)),
+        Kind::Port => put_shortest(area, to, digits_of(v)),
     }
 }

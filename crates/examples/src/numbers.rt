@@ -7,6 +7,7 @@ use print::put_whole;
 use text::hundredths::Hundredths;
 use text::hundredths::put_hundredths;
 use text::hundredths::read_hundredths;
+use text::put::Cursor;
 use text::whole::Whole;
 use text::whole::put_padded;
 use text::whole::put_shortest;
@@ -40,7 +41,7 @@ pub fn read_as_whole(text: &[u8]) {
 
 fn write_hundredths(v: i32) {
     let mut area = [0u8; 8];
-    let n = put_hundredths(&mut area, 0, v);
+    let n = put_hundredths(&mut area, Cursor { at: 0, sum: 0 }, v).at;
     put(b"hundredths written ");
     put_signed(v);
     put(b": ");
@@ -58,13 +59,13 @@ pub fn hundredths_written() {
 
 fn write_shortest(v: u16) {
     let mut area = [0u8; 4];
-    let n = put_shortest(&mut area, 0, v);
+    let n = put_shortest(&mut area, Cursor { at: 0, sum: 0 }, v).at;
     put_text(front(&area, n));
 }
 
 fn write_padded(v: u16) {
     let mut area = [0u8; 4];
-    let n = put_padded(&mut area, 0, v);
+    let n = put_padded(&mut area, Cursor { at: 0, sum: 0 }, v).at;
     put_text(front(&area, n));
 }
 

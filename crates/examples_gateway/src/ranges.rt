@@ -1,6 +1,7 @@
 // A row of document 01's table of ranges, as document 02 leaves it (E2, E6): how many data an SN of that name has,
 // the name, the number one below its range, the first, the last and the one above it, and for an SN the same of a
 // datum. Each is served to station 1, and a line says what was answered.
+use frame::STX;
 use frame::writer::close_frame;
 use gateway::serve::serve;
 use print::front;
@@ -8,6 +9,7 @@ use print::part;
 use print::put;
 use print::put_slice;
 use print::put_two;
+use text::put::Cursor;
 use text::put::put_bytes;
 ghost use Prim.Native.Nat.{_≤_};
 
@@ -21,27 +23,27 @@ struct Trial {
     datum: usize,
 }
 
-// Puts s behind the first `at` bytes of an area, where it has room.
-fn append(area: &mut [u8; 256], at: usize, s: &[u8]) -> usize
-    requires { ⌜ at ≤ 200 ⌝ }
-    ensures { λ r. ⌜ r ≤ 200 ⌝ }
+// Puts s at a cursor of an area, where it has room.
+fn append(area: &mut [u8; 256], to: Cursor, s: &[u8]) -> Cursor
+    requires { ⌜ to .at ≤ 200 ⌝ }
+    ensures { λ r. ⌜ r .at ≤ 200 ⌝ }
 {
-    if 200 - at < s.len() {
-        return at;
+    if 200 - to.at < s.len() {
+        return to;
     }
-    put_bytes(&mut area[..], at, s)
+    put_bytes(&mut area[..], to, s)
 }
 
 // SP and the datum of a field, where the request has that field: the datum that is tried, where it is tried in this
 // field, else 0.
-fn append_datum(area: &mut [u8; 256], at: usize, row: &[u8], field: usize, trial: Trial) -> usize
-    requires { ⌜ at ≤ 200 ⌝ }
-    ensures { λ r. ⌜ r ≤ 200 ⌝ }
+fn append_datum(area: &mut [u8; 256], to: Cursor, row: &[u8], field: usize, trial: Trial) -> Cursor
+    requires { ⌜ to .at ≤ 200 ⌝ }
+    ensures { λ r. ⌜ r .at ≤ 200 ⌝ }
 {
     if trial.count < field {
-        return at;
+        return to;
     }
-    let from = append(area, at, b" ");
+    let from = append(area, to, b" ");
     if trial.field == field {
         return append(area, from, part(row, b' ', trial.datum));
     }
@@ -49,11 +51,11 @@ fn append_datum(area: &mut [u8; 256], at: usize, row: &[u8], field: usize, trial
 }
 
 // The name of the row with another first letter.
-fn append_name(area: &mut [u8; 256], at: usize, letter: u8, name: &[u8]) -> usize
-    requires { ⌜ at ≤ 200 ⌝ }
-    ensures { λ r. ⌜ r ≤ 200 ⌝ }
+fn append_name(area: &mut [u8; 256], to: Cursor, letter: u8, name: &[u8]) -> Cursor
+    requires { ⌜ to .at ≤ 200 ⌝ }
+    ensures { λ r. ⌜ r .at ≤ 200 ⌝ }
 {
-    let from = append(area, at, &[letter]);
+    let from = append(area, to, &[letter]);
     if name.len() == 0 {
         return from;
     }
@@ -61,10 +63,11 @@ fn append_name(area: &mut [u8; 256], at: usize, letter: u8, name: &[u8]) -> usiz
 }
 
 // Writes the frame of a trial to station 1, without ETX and LRC. Returns where it ends.
-fn write_trial(area: &mut [u8; 256], row: &[u8], trial: Trial) -> usize
-    ensures { λ r. ⌜ r ≤ 200 ⌝ }
+fn write_trial(area: &mut [u8; 256], row: &[u8], trial: Trial) -> Cursor
+    ensures { λ r. ⌜ r .at ≤ 200 ⌝ }
 {
-    let name = append(area, 0, b"\x021 ");
+    area[0] = STX;
+    let name = append(area, Cursor { at: 1, sum: 0 }, b"1 ");
     let space = append_name(area, name, trial.letter, part(row, b' ', 1));
     let number = append(area, space, b" ");
     let first = append(area, number, part(row, b' ', trial.number));
@@ -74,14 +77,11 @@ fn write_trial(area: &mut [u8; 256], row: &[u8], trial: Trial) -> usize
     append_datum(area, fourth, row, 4, trial)
 }
 
-// Writes ETX and the LRC behind the first n bytes, and returns the length of the frame.
-fn close(area: &mut [u8; 256], n: usize) -> usize
-    requires { ⌜ n ≤ 200 ⌝ }
+// Writes ETX and the LRC behind a frame that ends at `end`, and returns its length.
+fn close(area: &mut [u8; 256], end: Cursor) -> usize
+    requires { ⌜ end .at ≤ 200 ⌝ }
 {
-    if n == 0 {
-        return 0;
-    }
-    close_frame(&mut area[..], n)
+    close_frame(&mut area[..], end)
 }
 
 // The first n bytes of an area.
@@ -107,7 +107,7 @@ fn try_one(
     let mut area = [0u8; 256];
     let end = write_trial(&mut area, row, trial);
     put(b"range ");
-    put_slice(first_bytes(&area, end));
+    put_slice(first_bytes(&area, end.at));
     let length = close(&mut area, end);
     let mut reply = [0u8; 64];
     let sent = serve(

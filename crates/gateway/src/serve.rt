@@ -12,7 +12,7 @@ use tables::perform::perform;
 ghost use mathlib.Core.Path.{_≡_};
 ghost use Prim.Native.Nat.{_≤_, _<_};
 ghost use lib.ListN.{length};
-ghost use Rattle.text.specs.Put.{Put};
+ghost use Rattle.text.specs.Put.{PutAt};
 ghost use Rattle.frame.specs.Frame.{frameOf};
 ghost use Rattle.harl.specs.Reply.{performedText, refusalText};
 ghost use Rattle.tables.specs.Tables.{Tables, tables};
@@ -45,7 +45,7 @@ fn find_slot(stations: &[u8; 4], station: u8) -> Found
 // Writes the reply to a request that was performed: data, or the status of an SN.
 fn put_reply(reply: &mut [u8], station: u8, outcome: Outcome) -> usize
     requires { ⌜ 64 ≤ length (now reply) ⌝ }
-    ensures { λ r. ⌜ Put (now (reply .entry)) 0 (frameOf station (performedText outcome)) r (now (reply .exit)) ⌝ }
+    ensures { λ r. ⌜ PutAt (now (reply .entry)) 0 (frameOf station (performedText outcome)) r (now (reply .exit)) ⌝ }
 {
     let at = open_frame(reply, station);
     let end = put_outcome(reply, at, true, outcome);
@@ -55,7 +55,7 @@ fn put_reply(reply: &mut [u8], station: u8, outcome: Outcome) -> usize
 // Writes the reply to a refused request.
 fn put_refused(reply: &mut [u8], station: u8, n: u8, store: bool) -> usize
     requires { ⌜ 64 ≤ length (now reply) ⌝ }
-    ensures { λ r. ⌜ Put (now (reply .entry)) 0 (frameOf station (refusalText n store)) r (now (reply .exit)) ⌝ }
+    ensures { λ r. ⌜ PutAt (now (reply .entry)) 0 (frameOf station (refusalText n store)) r (now (reply .exit)) ⌝ }
 {
     let at = open_frame(reply, station);
     let end = put_refusal(reply, at, n, store);

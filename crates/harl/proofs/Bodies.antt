@@ -6,7 +6,7 @@ use mathlib.Core.List.{List, []}
 use native.Mathlib.Omega.{arith}
 use lib.Dec.{eqb}
 use lib.ListN.{length, length-append}
-use Rattle.text.specs.Put.{Put}
+use Rattle.text.specs.Put.{PutAt}
 use Rattle.text.specs.Whole.{digit, shortest}
 use Rattle.text.proofs.Laws.{Skips}
 use Rattle.text.proofs.Digits.{shortest-some, shortest-short}
@@ -106,5 +106,5 @@ frame-fits station body h = omega (arith, frame-length station body, shortest-sh
 pub wrote-none : {n : ℕ} {xs : List ℕ} → Wrote (record { number = n; bytes = [] }) xs (record { number = n; length = 0 }) xs
 wrote-none = record { number = refl; length-is = refl; fits = omega arith; area = refl }
 
-pub wrote-all : {n r : ℕ} {bytes xs ys : List ℕ} → Put xs 0 bytes r ys → length bytes ≤ length xs → Wrote (record { number = n; bytes = bytes }) xs (record { number = n; length = r }) ys
+pub wrote-all : {n r : ℕ} {bytes xs ys : List ℕ} → PutAt xs 0 bytes r ys → length bytes ≤ length xs → Wrote (record { number = n; bytes = bytes }) xs (record { number = n; length = r }) ys
 wrote-all p fits = record { number = refl; length-is = omega (arith, p .next); fits = fits; area = p .area }

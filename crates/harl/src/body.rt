@@ -13,6 +13,7 @@ use data::data::Values;
 use data::data::put_data;
 use data::data::read_data;
 use data::ranges::judge_parts;
+use text::put::Cursor;
 use text::put::put_byte;
 use text::whole::Whole;
 use text::whole::put_shortest;
@@ -113,16 +114,16 @@ pub fn read_body(body: &[u8]) -> Judged
 }
 
 // Writes the body of a request.
-pub fn put_body(area: &mut [u8], at: usize, parts: Parts) -> usize
-    requires { ⌜ at + length (bodyText parts) ≤ length (now area) ⌝ }
-    ensures { λ r. ⌜ Put (now (area .entry)) at (bodyText parts) r (now (area .exit)) ⌝ }
+pub fn put_body(area: &mut [u8], to: Cursor, parts: Parts) -> Cursor
+    requires { ⌜ to .at + length (bodyText parts) ≤ length (now area) ⌝ }
+    ensures { λ r. ⌜ Put (now (area .entry)) to (bodyText parts) r (now (area .exit)) ⌝ }
 {
     let command = parts.command;
     let number = parts.number;
     let row = parts.values;
     let rule = rule_of(command);
     let kind = rule.kind;
-    let space = put_name(area, at, command);
+    let space = put_name(area, to, command);
     let digits = put_byte(area, space, b' ');
     let end = put_shortest(area, digits, number);
     if rule.store {

@@ -7,6 +7,7 @@ use data::data::Values;
 use data::data::put_data;
 use data::data::read_data;
 use data::ranges::all_in_range;
+use text::put::Cursor;
 use text::put::put_byte;
 use text::put::put_bytes;
 use text::whole::put_two_digits;
@@ -137,50 +138,50 @@ pub fn judge_outcome(rule: Rule, outcome: Outcome) -> u8
 }
 
 // Writes a status: two digits, after "E" for an LN; of 100 or more, the last two digits.
-pub fn put_status(area: &mut [u8], at: usize, store: bool, n: u8) -> usize
-    requires { ⌜ at + length (statusText store n) ≤ length (now area) ⌝ }
-    ensures { λ r. ⌜ Put (now (area .entry)) at (statusText store n) r (now (area .exit)) ⌝ }
+pub fn put_status(area: &mut [u8], to: Cursor, store: bool, n: u8) -> Cursor
+    requires { ⌜ to .at + length (statusText store n) ≤ length (now area) ⌝ }
+    ensures { λ r. ⌜ Put (now (area .entry)) to (statusText store n) r (now (area .exit)) ⌝ }
 {
     if store {
         if n == 0 {
-            return put_bytes(area, at, &DONE);
+            return put_bytes(area, to, &DONE);
         }
-        return put_two_digits(area, at, n as u16);
+        return put_two_digits(area, to, n as u16);
     }
-    let digits = put_byte(area, at, b'E');
+    let digits = put_byte(area, to, b'E');
     put_two_digits(area, digits, n as u16)
 }
 
 // Writes what answers a refusal: of a name that is no command's, or of an LN or SN name.
-pub fn put_refusal(area: &mut [u8], at: usize, n: u8, store: bool) -> usize
-    requires { ⌜ at + 3 ≤ length (now area) ⌝ }
-    ensures { λ r. ⌜ Put (now (area .entry)) at (refusalText n store) r (now (area .exit)) ⌝ }
+pub fn put_refusal(area: &mut [u8], to: Cursor, n: u8, store: bool) -> Cursor
+    requires { ⌜ to .at + 3 ≤ length (now area) ⌝ }
+    ensures { λ r. ⌜ Put (now (area .entry)) to (refusalText n store) r (now (area .exit)) ⌝ }
 {
     if n == 9 {
-        return put_bytes(area, at, &UNKNOWN);
+        return put_bytes(area, to, &UNKNOWN);
     }
-    put_status(area, at, store, n)
+    put_status(area, to, store, n)
 }
 
 // Writes the data of a reply.
-pub fn put_held(area: &mut [u8], at: usize, held: Data) -> usize
-    requires { ⌜ at + length (contentText (contentOf held)) ≤ length (now area) ⌝ }
-    ensures { λ r. ⌜ Put (now (area .entry)) at (contentText (contentOf held)) r (now (area .exit)) ⌝ }
+pub fn put_held(area: &mut [u8], to: Cursor, held: Data) -> Cursor
+    requires { ⌜ to .at + length (contentText (contentOf held)) ≤ length (now area) ⌝ }
+    ensures { λ r. ⌜ Put (now (area .entry)) to (contentText (contentOf held)) r (now (area .exit)) ⌝ }
 {
     let content = content_of(held);
     let kind = content.kind;
     let row = content.row;
-    put_data(area, at, kind, row)
+    put_data(area, to, kind, row)
 }
 
 // Writes what a reply to an SN (`store`) or to an LN carries.
-pub fn put_outcome(area: &mut [u8], at: usize, store: bool, outcome: Outcome) -> usize
-    requires { ⌜ at + length (outcomeText store outcome) ≤ length (now area) ⌝ }
-    ensures { λ r. ⌜ Put (now (area .entry)) at (outcomeText store outcome) r (now (area .exit)) ⌝ }
+pub fn put_outcome(area: &mut [u8], to: Cursor, store: bool, outcome: Outcome) -> Cursor
+    requires { ⌜ to .at + length (outcomeText store outcome) ≤ length (now area) ⌝ }
+    ensures { λ r. ⌜ Put (now (area .entry)) to (outcomeText store outcome) r (now (area .exit)) ⌝ }
 {
     match outcome {
-        Outcome::Data(held) => put_held(area, at, held),
-        Outcome::Status(n) => put_status(area, at, store, n),
+        Outcome::Data(held) => put_held(area, to, held),
+        Outcome::Status(n) => put_status(area, to, store, n),
     }
 }
 

@@ -9,7 +9,7 @@ use borrow.Author.Tests.{lt-ltb, le-ltb, ltb-true, leb-true, eqb-true}
 use lib.ListN.{length, getD, take, drop, length-append}
 use lib.Seq.{sets, sets-eq, length-sets, take-at, length-take-le}
 use lib.Dec.{ltb}
-use Rattle.text.specs.Put.{Put}
+use Rattle.text.specs.Put.{PutAt}
 use Rattle.text.proofs.Laws.{here, over}
 use Rattle.text.proofs.Digits.{digit-length}
 use Rattle.lines.specs.declared.reader.Line.the-variants.{Slice, NoCall}
@@ -135,7 +135,7 @@ answer-short n s = omega (arith, answer-length n s, reply-length s)
 -- ---- bytes put behind others
 
 -- bytes put at an index stand behind those before it
-pub put-behind : {xs vs ys : List ℕ} {at r : ℕ} → Put xs at vs r ys → r ≤ length xs → take r ys ≡ take at xs ++ vs
+pub put-behind : {xs vs ys : List ℕ} {at r : ℕ} → PutAt xs at vs r ys → r ≤ length xs → take r ys ≡ take at xs ++ vs
 put-behind {xs} {vs} {ys} {at} {r} p h =
     let n : r ≡ at + length vs = p .next in
     let q : length (take at xs) ≡ at = length-take-le at xs (omega arith) in

@@ -1,4 +1,5 @@
 // A line taken in parts, as it comes in blocks.
+use text::put::Cursor;
 use text::put::put_bytes;
 ghost use mathlib.Core.Path.{_≡_};
 ghost use mathlib.Core.List.{_++_};
@@ -13,7 +14,7 @@ pub fn take_bytes(held: &mut [u8], n: usize, s: &[u8]) -> usize
 {
     let room = 513 - n;
     if room < s.len() {
-        return put_bytes(held, n, &s[..room]);
+        return put_bytes(held, Cursor { at: n, sum: 0 }, &s[..room]).at;
     }
-    put_bytes(held, n, s)
+    put_bytes(held, Cursor { at: n, sum: 0 }, s).at
 }

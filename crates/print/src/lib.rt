@@ -1,6 +1,7 @@
 // What the example programs write on standard output: labels, texts, numbers and bytes.
 use libc::STDOUT_FILENO;
 use text::hundredths::unsigned_abs;
+use text::put::Cursor;
 use text::scan::find;
 use text::whole::put_two_digits;
 ghost use Prim.Native.Nat.{_<_, _≤_};
@@ -23,7 +24,7 @@ pub fn put_whole(n: u64) {
 
 pub fn put_two(n: u8) {
     let mut digits = [0u8; 2];
-    put_two_digits(&mut digits, 0, n as u16);
+    put_two_digits(&mut digits, Cursor { at: 0, sum: 0 }, n as u16);
     put(&digits);
 }
 

@@ -3,7 +3,7 @@ use Prim.Native.Nat.{ℕ, _+_, _≤_}
 use mathlib.Core.Path.{_≡_}
 use mathlib.Core.Bool.{cond}
 use mathlib.Core.List.{List}
-use Rattle.text.specs.Put.{Put}
+use Rattle.text.specs.Put.{PutAt}
 use Rattle.tables.specs.Tables.{Tables}
 use Rattle.model.specs.Call.{Call, serve, Answer}
 use Rattle.model.specs.Box.{Box, after, answer}
@@ -28,7 +28,7 @@ boxAfter b line = cond (isCall line) (after b (lineCall (sliceOf line))) b
 -- one call answered: xs is the output before and ys after, r the index after the last byte, t the tables after
 pub record CallAnswered (b : Box) (slice xs : List ℕ) (at r : ℕ) (ys : List ℕ) (t : Tables) : Type 0 where
   -- the line of the model's answer was put
-  pub answer-is : Put xs at (asLine (answer b (lineCall slice))) r ys
+  pub answer-is : PutAt xs at (asLine (answer b (lineCall slice))) r ys
   -- the tables are those that the call leaves
   pub tables-are : t ≡ after b (lineCall slice) .tables
   -- two digits, a space, a reply of 64 bytes, LF
@@ -37,7 +37,7 @@ pub record CallAnswered (b : Box) (slice xs : List ℕ) (at r : ℕ) (ys : List 
 -- one line answered, likewise
 pub record LineAnswered (b : Box) (line xs : List ℕ) (at r : ℕ) (ys : List ℕ) (t : Tables) : Type 0 where
   -- the line of the answer was put
-  pub answer-is : Put xs at (lineAnswer b line) r ys
+  pub answer-is : PutAt xs at (lineAnswer b line) r ys
   -- the tables are those that the line leaves
   pub tables-are : t ≡ boxAfter b line .tables
   -- the line of an answer has at most 132 bytes

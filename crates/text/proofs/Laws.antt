@@ -7,10 +7,12 @@ use native.Mathlib.Omega.{arith}
 use native.Mathlib.Nat.{add-zero}
 use native.Mathlib.Numerals.{add-one}
 use borrow.Author.Tests.{eq-eqb}
+use lib.Bits.{bitXor}
 use lib.ListN.{length, getD, take, drop, set, drop-of-length-le, length-append, length-drop}
 use lib.Seq.{drop-cons, take-all, sets}
 use Rattle.text.specs.Scan.{until, before}
-use Rattle.text.specs.Put.{Put}
+use Rattle.text.specs.Put.{Put, PutAt, xorOnto}
+use Rattle.text.specs.declared.put.Cursor.{Cursor}
 
 -- ---- a list from an index on, where the index is inside, and where it is not
 
@@ -79,12 +81,35 @@ sets-append xs at (u ∷ us) vs =
     sets-append (set xs at u) (suc at) us vs ∙ rw e
 
 -- nothing was written
-pub put-none : (xs : List ℕ) (at : ℕ) → Put xs at [] at xs
-put-none xs at = record { next = omega arith; area = refl }
+pub put-at-none : (xs : List ℕ) (at : ℕ) → PutAt xs at [] at xs
+put-at-none xs at = record { next = omega arith; area = refl }
 
 -- one piece after another
-pub put-then : {xs : List ℕ} {at : ℕ} {us : List ℕ} {p : ℕ} {ys vs : List ℕ} {q : ℕ} {zs : List ℕ} → Put xs at us p ys → Put ys p vs q zs → Put xs at (us ++ vs) q zs
-put-then {xs} {at} {us} {p} {ys} {vs} {q} {zs} a b = record {
+pub put-at-then : {xs : List ℕ} {at : ℕ} {us : List ℕ} {p : ℕ} {ys vs : List ℕ} {q : ℕ} {zs : List ℕ} → PutAt xs at us p ys → PutAt ys p vs q zs → PutAt xs at (us ++ vs) q zs
+put-at-then {xs} {at} {us} {p} {ys} {vs} {q} {zs} a b = record {
   next = omega (arith, a .next, b .next, length-append us vs);
   area = b .area ∙ simp (a .area, a .next, sets-append);
 }
+
+-- ---- bytes written at a cursor, which sums them
+
+-- the sum of one piece after another
+pub xor-append : (sum : ℕ) (us vs : List ℕ) → xorOnto sum (us ++ vs) ≡ xorOnto (xorOnto sum us) vs
+unfolding xorOnto
+xor-append sum [] vs = refl
+xor-append sum (u ∷ us) vs = xor-append (bitXor sum u) us vs
+
+-- the bytes and the index, without the sum
+pub put-at : {xs : List ℕ} {to : Cursor} {vs : List ℕ} {r : Cursor} {ys : List ℕ} → Put xs to vs r ys → PutAt xs (to .at) vs (r .at) ys
+put-at p = record { next = p .next; area = p .area }
+
+-- nothing was written
+pub put-none : (xs : List ℕ) (to : Cursor) → Put xs to [] to xs
+unfolding xorOnto
+put-none xs to = record { next = omega arith; sum = refl; area = refl }
+
+-- one piece after another
+pub put-then : {xs : List ℕ} {to : Cursor} {us : List ℕ} {p : Cursor} {ys vs : List ℕ} {q : Cursor} {zs : List ℕ} → Put xs to us p ys → Put ys p vs q zs → Put xs to (us ++ vs) q zs
+put-then {us = us} {vs = vs} a b =
+    let w = put-at-then (put-at a) (put-at b) in
+    record { next = w .next; sum = b .sum ∙ simp (a .sum, xor-append); area = w .area }

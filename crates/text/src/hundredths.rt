@@ -1,5 +1,6 @@
 // Hundredths: read from an optional "-", 1 to 4 digits, and nothing or a point with 1 or 2 digits; written
 // with the shortest whole part and two decimals, "-" only below zero.
+use crate::put::Cursor;
 use crate::put::put_byte;
 use crate::scan::is_end;
 use crate::whole::Whole;
@@ -165,25 +166,25 @@ pub fn unsigned_abs(v: i32) -> u32
 }
 
 // Writes a number without a sign.
-fn put_magnitude(area: &mut [u8], at: usize, m: u32) -> usize
-    requires { ⌜ at + length (magnitudeText m) ≤ length (now area) ⌝ }
-    ensures { λ r. ⌜ Put (now (area .entry)) at (magnitudeText m) r (now (area .exit)) ⌝ }
+fn put_magnitude(area: &mut [u8], to: Cursor, m: u32) -> Cursor
+    requires { ⌜ to .at + length (magnitudeText m) ≤ length (now area) ⌝ }
+    ensures { λ r. ⌜ Put (now (area .entry)) to (magnitudeText m) r (now (area .exit)) ⌝ }
 {
     let cents = (m % 100) as u16;
-    let point = put_shortest(area, at, (m / 100 % 10000) as u16);
+    let point = put_shortest(area, to, (m / 100 % 10000) as u16);
     let decimals = put_byte(area, point, b'.');
     put_two_digits(area, decimals, cents)
 }
 
 // Writes v hundredths; of a whole part with more than 4 digits, the last 4.
-pub fn put_hundredths(area: &mut [u8], at: usize, v: i32) -> usize
-    requires { ⌜ at + length (hundredthsText v) ≤ length (now area) ⌝ }
-    ensures { λ r. ⌜ Put (now (area .entry)) at (hundredthsText v) r (now (area .exit)) ⌝ }
+pub fn put_hundredths(area: &mut [u8], to: Cursor, v: i32) -> Cursor
+    requires { ⌜ to .at + length (hundredthsText v) ≤ length (now area) ⌝ }
+    ensures { λ r. ⌜ Put (now (area .entry)) to (hundredthsText v) r (now (area .exit)) ⌝ }
 {
     let m = unsigned_abs(v);
     if v < 0 {
-        let digits = put_byte(area, at, b'-');
+        let digits = put_byte(area, to, b'-');
         return put_magnitude(area, digits, m);
     }
-    put_magnitude(area, at, m)
+    put_magnitude(area, to, m)
 }

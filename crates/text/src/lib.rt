@@ -1,9 +1,9 @@
 // Numbers as text, and the bytes of a lent area.
 //
 // The readers take any bytes and return an enum: the value, or that the text is malformed. The writers write
-// from an index of a lent area on (memory that the caller owns and passes by reference), and return the index
-// after the last byte written. What each reads and writes is a definition of specs/; that every number in
-// range reads back as itself is proved in proofs/.
+// into a lent area (memory that the caller owns and passes by reference). Each takes and returns a cursor: the index
+// of the next byte, and the exclusive or of the bytes written so far. What each reads and writes is a definition of
+// specs/; that every number in range reads back as itself is proved in proofs/.
 pub mod scan; // scan.rt: the index of the first byte of a given value
 pub mod put; // put.rt: bytes written into a lent area
 pub mod whole; // whole.rt: whole numbers of 1 to 4 digits

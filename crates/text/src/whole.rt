@@ -1,4 +1,5 @@
 // Whole numbers: read from 1 to 4 digits, leading zeros allowed; written shortest, or always with 4 digits.
+use crate::put::Cursor;
 use crate::put::put_byte;
 use crate::scan::is_end;
 ghost use mathlib.Core.Path.{_≡_};
@@ -89,51 +90,51 @@ pub fn read_whole(s: &[u8], from: usize) -> WholeField
 }
 
 // Writes the digit of v that counts units of `unit`.
-fn put_digit(area: &mut [u8], at: usize, unit: u16, v: u16) -> usize
-    requires { ⌜ (0 < unit) × (at < length (now area)) ⌝ }
-    ensures { λ r. ⌜ Put (now (area .entry)) at (digit unit v) r (now (area .exit)) ⌝ }
+fn put_digit(area: &mut [u8], to: Cursor, unit: u16, v: u16) -> Cursor
+    requires { ⌜ (0 < unit) × (to .at < length (now area)) ⌝ }
+    ensures { λ r. ⌜ Put (now (area .entry)) to (digit unit v) r (now (area .exit)) ⌝ }
 {
     let d = v / unit % 10;
-    put_byte(area, at, d as u8 + b'0')
+    put_byte(area, to, d as u8 + b'0')
 }
 
 // Writes that digit, or nothing where v is below `unit`.
-fn put_leading(area: &mut [u8], at: usize, unit: u16, v: u16) -> usize
-    requires { ⌜ (0 < unit) × (at + length (leading unit v) ≤ length (now area)) ⌝ }
-    ensures { λ r. ⌜ Put (now (area .entry)) at (leading unit v) r (now (area .exit)) ⌝ }
+fn put_leading(area: &mut [u8], to: Cursor, unit: u16, v: u16) -> Cursor
+    requires { ⌜ (0 < unit) × (to .at + length (leading unit v) ≤ length (now area)) ⌝ }
+    ensures { λ r. ⌜ Put (now (area .entry)) to (leading unit v) r (now (area .exit)) ⌝ }
 {
     if v < unit {
-        return at;
+        return to;
     }
-    put_digit(area, at, unit, v)
+    put_digit(area, to, unit, v)
 }
 
 // Writes v with no leading zero; of 10000 or more, the last 4 digits.
-pub fn put_shortest(area: &mut [u8], at: usize, v: u16) -> usize
-    requires { ⌜ at + length (shortest v) ≤ length (now area) ⌝ }
-    ensures { λ r. ⌜ Put (now (area .entry)) at (shortest v) r (now (area .exit)) ⌝ }
+pub fn put_shortest(area: &mut [u8], to: Cursor, v: u16) -> Cursor
+    requires { ⌜ to .at + length (shortest v) ≤ length (now area) ⌝ }
+    ensures { λ r. ⌜ Put (now (area .entry)) to (shortest v) r (now (area .exit)) ⌝ }
 {
-    let hundreds = put_leading(area, at, 1000, v);
+    let hundreds = put_leading(area, to, 1000, v);
     let tens = put_leading(area, hundreds, 100, v);
     let ones = put_leading(area, tens, 10, v);
     put_digit(area, ones, 1, v)
 }
 
 // Writes v with 2 digits; of 100 or more, the last 2.
-pub fn put_two_digits(area: &mut [u8], at: usize, v: u16) -> usize
-    requires { ⌜ at + 2 ≤ length (now area) ⌝ }
-    ensures { λ r. ⌜ Put (now (area .entry)) at (twoDigits v) r (now (area .exit)) ⌝ }
+pub fn put_two_digits(area: &mut [u8], to: Cursor, v: u16) -> Cursor
+    requires { ⌜ to .at + 2 ≤ length (now area) ⌝ }
+    ensures { λ r. ⌜ Put (now (area .entry)) to (twoDigits v) r (now (area .exit)) ⌝ }
 {
-    let last = put_digit(area, at, 10, v);
+    let last = put_digit(area, to, 10, v);
     put_digit(area, last, 1, v)
 }
 
 // Writes v with 4 digits; of 10000 or more, the last 4.
-pub fn put_padded(area: &mut [u8], at: usize, v: u16) -> usize
-    requires { ⌜ at + 4 ≤ length (now area) ⌝ }
-    ensures { λ r. ⌜ Put (now (area .entry)) at (padded v) r (now (area .exit)) ⌝ }
+pub fn put_padded(area: &mut [u8], to: Cursor, v: u16) -> Cursor
+    requires { ⌜ to .at + 4 ≤ length (now area) ⌝ }
+    ensures { λ r. ⌜ Put (now (area .entry)) to (padded v) r (now (area .exit)) ⌝ }
 {
-    let hundreds = put_digit(area, at, 1000, v);
+    let hundreds = put_digit(area, to, 1000, v);
     let tens = put_digit(area, hundreds, 100, v);
     put_two_digits(area, tens, v)
 }

@@ -1,4 +1,5 @@
--- The invariant: what is left of the text, written at `end` of the area as it is now, gives what all of it gives.
+-- The invariant: what is left of the text, written at `end` of the area as it is now and taken into its sum, gives what
+-- all of it gives.
 use Prim.Native.Nat.{ℕ, _+_, _-_, _≤_, _<_}
 use mathlib.Core.Path.{_≡_, refl, sym, ap, _∙_}
 use mathlib.Core.List.{List, [], _∷_, _++_, map}
@@ -7,8 +8,9 @@ use borrow.Author.Needs.{needs}
 use lib.IntN.{ℤ, pos}
 use lib.ListN.{length, getD, take, drop, length-append}
 use lib.Seq.{sets}
-use Rattle.text.specs.Put.{Put}
-use Rattle.text.proofs.Laws.{put-then, sets-append}
+use Rattle.text.specs.Put.{Put, xorOnto}
+use Rattle.text.specs.declared.put.Cursor.{Cursor}
+use Rattle.text.proofs.Laws.{put-then, sets-append, xor-append}
 use Rattle.text.proofs.Signed.{i32-back}
 use Rattle.commands.specs.declared.command.Kind.{Kind}
 use Rattle.commands.specs.declared.request.Row.{Row}
@@ -21,23 +23,26 @@ use Rattle.data.proofs.data.put_data.Tie as tie
 
 -- ---- a text written in parts
 
--- the area ys, with what is left written at p, is xs with the whole text at `at`
-record Left (xs : List ℕ) (at : ℕ) (whole ys : List ℕ) (p : ℕ) (left : List ℕ) : Type 0 where
+-- the area ys, with what is left written at p, is xs with the whole text at `to`
+record Left (xs : List ℕ) (to : Cursor) (whole ys : List ℕ) (p : Cursor) (left : List ℕ) : Type 0 where
   size : length ys ≡ length xs
-  next : p + length left ≡ at + length whole
-  area : sets ys p left ≡ sets xs at whole
+  next : p .at + length left ≡ to .at + length whole
+  sum : xorOnto (p .sum) left ≡ xorOnto (to .sum) whole
+  area : sets ys (p .at) left ≡ sets xs (to .at) whole
 
 -- a part is written
-moved : {xs : List ℕ} {at : ℕ} {whole ys : List ℕ} {p : ℕ} (us : List ℕ) {left : List ℕ} {q : ℕ} {zs : List ℕ} → Left xs at whole ys p (us ++ left) → Put ys p us q zs → length zs ≡ length ys → Left xs at whole zs q left
+moved : {xs : List ℕ} {to : Cursor} {whole ys : List ℕ} {p : Cursor} (us : List ℕ) {left : List ℕ} {q : Cursor} {zs : List ℕ} → Left xs to whole ys p (us ++ left) → Put ys p us q zs → length zs ≡ length ys → Left xs to whole zs q left
 moved {ys = ys} {p = p} us {left} h w l = record {
   size = l ∙ h .size;
   next = omega (arith, h .next, w .next, length-append us left);
-  area = simp (w .area, w .next) (sym (sets-append ys p us left) ∙ h .area);
+  sum = simp (w .sum) (sym (xor-append (p .sum) us left) ∙ h .sum);
+  area = simp (w .area, w .next) (sym (sets-append ys (p .at) us left) ∙ h .area);
 }
 
 -- nothing is left
-done : {xs : List ℕ} {at : ℕ} {whole ys : List ℕ} {p : ℕ} → Left xs at whole ys p [] → Put xs at whole p ys
-done h = record { next = omega (arith, h .next); area = h .area }
+done : {xs : List ℕ} {to : Cursor} {whole ys : List ℕ} {p : Cursor} → Left xs to whole ys p [] → Put xs to whole p ys
+unfolding xorOnto
+done h = record { next = omega (arith, h .next); sum = h .sum; area = h .area }
 
 -- ---- the text of the first n of vs
 
@@ -70,12 +75,12 @@ module _ (k : Kind) (r : Row) {vs : List ℤ} {n : ℕ} (e : vs ≡ rowFields r)
   first-fits at room h = omega (arith, ap length (text ∙ first), length-append (fieldText k (getD vs 0 (pos 0))) (from k n vs 1))
 
   -- after the first, at p of ys
-  module _ {xs : List ℕ} {at : ℕ} {p : ℕ} {ys : List ℕ} (room : at + length (dataText k r) ≤ length xs) (w : Put xs at (fieldText k (getD vs 0 (pos 0))) p ys) (size : length ys ≡ length xs) where
-    rest-fits : p + length (from k n vs 1) ≤ length ys
+  module _ {xs : List ℕ} {to p : Cursor} {ys : List ℕ} (room : to .at + length (dataText k r) ≤ length xs) (w : Put xs to (fieldText k (getD vs 0 (pos 0))) p ys) (size : length ys ≡ length xs) where
+    rest-fits : p .at + length (from k n vs 1) ≤ length ys
     rest-fits = omega (arith, w .next, ap length (text ∙ first), length-append (fieldText k (getD vs 0 (pos 0))) (from k n vs 1))
 
-    module _ {zs : List ℕ} {q i : ℕ} (h : Left ys p (from k n vs 1) zs q (from k n vs i)) where
-      next-fits : i < n → q + 1 + length (fieldText k (getD vs i (pos 0))) ≤ length zs
+    module _ {zs : List ℕ} {q : Cursor} {i : ℕ} (h : Left ys p (from k n vs 1) zs q (from k n vs i)) where
+      next-fits : i < n → q .at + 1 + length (fieldText k (getD vs i (pos 0))) ≤ length zs
       next-fits l =
           omega (
             arith,
@@ -86,29 +91,29 @@ module _ (k : Kind) (r : Row) {vs : List ℤ} {n : ℕ} (e : vs ≡ rowFields r)
             length-append (fieldText k (getD vs i (pos 0))) (from k n vs (i + 1)),
           )
 
-      ended : n ≤ i → Put xs at (dataText k r) q zs
+      ended : n ≤ i → Put xs to (dataText k r) q zs
       ended l =
           let none : from k n vs i ≡ [] = ap (λ l. following (map (fieldText k) l)) (none-left n vs i l) in
           rw (text ∙ first) (put-then w (done (rw none at h)))
 
 abbrev Inv-loop : tie.InvT-loop
-Inv-loop area₀ at kind values count end₀ i₀ area end i = (i ≤ count) × Left area₀ end₀ (from kind count values 1) area end (from kind count values i)
+Inv-loop area₀ kind values count end₀ i₀ area end i = (i ≤ count) × Left area₀ end₀ (from kind count values 1) area end (from kind count values i)
 
 abbrev μ-loop : tie.MeasureT-loop
-μ-loop area₀ at kind values count end₀ i₀ area end i = count - i
+μ-loop area₀ kind values count end₀ i₀ area end i = count - i
 
 put-field-requires : tie.Need-put-field-requires Inv-loop μ-loop
 put-field-requires c κs =
     let n = c .before .before in
     let s = n .before .before .before in
     rw (i32-back _ (c .put-field-arg2 .given))
-    (first-fits (s .args .kind) (s .args .row) (n .before .fields-of .ensures) (n .count-of .ensures) (s .args .at) _ (s .pre))
+    (first-fits (s .args .kind) (s .args .row) (n .before .fields-of .ensures) (n .count-of .ensures) (s .args .to .at) _ (s .pre))
 
 loop-holds : tie.Need-loop-holds Inv-loop μ-loop
 loop-holds c =
     let n = c .before .before .before .before .before in
     let s = n .before .before .before in
-    (some (s .args .kind) (s .args .row) (n .before .fields-of .ensures) (n .count-of .ensures), record { size = refl; next = refl; area = refl })
+    (some (s .args .kind) (s .args .row) (n .before .fields-of .ensures) (n .count-of .ensures), record { size = refl; next = refl; sum = refl; area = refl })
 
 put-byte-requires : tie.Need-put-byte-requires Inv-loop μ-loop
 put-byte-requires c κs =

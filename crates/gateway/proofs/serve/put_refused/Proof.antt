@@ -1,12 +1,9 @@
 -- `o` is where the frame was opened, `b` where its body was put, and `f` where it was closed.
-use Prim.Native.Nat.{_≤_}
 use native.Mathlib.Omega.{arith}
 use borrow.Author.Needs.{needs}
-use lib.ListN.{length}
 use Rattle.text.proofs.Digits.{shortest-short}
 use Rattle.frame.proofs.Writing.{opening-length, framed}
-use Rattle.harl.specs.Reply.{refusalText}
-use Rattle.harl.proofs.Bodies.{refusal-length, frame-fits}
+use Rattle.harl.proofs.Bodies.{refusal-length}
 use Rattle.gateway.proofs.serve.put_refused.Statement.{statement}
 use Rattle.gateway.proofs.serve.put_refused.Tie as tie
 
@@ -19,14 +16,14 @@ put-refusal-requires : tie.Need-put-refusal-requires
 put-refusal-requires c κs =
     let o = c .before .before .before in
     let st = o .before .before .before .args .station in
-    omega (arith, opening-length st, shortest-short st, o .open-frame .kept .0, o .open-frame .ensures .next)
+    omega (arith, opening-length st, shortest-short st, o .open-frame .kept .0, o .open-frame .ensures .0 .next)
 
 close-frame-requires : tie.Need-close-frame-requires
 close-frame-requires c κs =
     let b = c .before .before .before in
     let o = b .before .before .before .before in
     let a = o .before .before .before .args in
-    omega (arith, opening-length (a .station), shortest-short (a .station), refusal-length (a .n) (a .store), o .open-frame .kept .0, o .open-frame .ensures .next, b .put-refusal .kept .0, b .put-refusal .ensures .next)
+    omega (arith, opening-length (a .station), shortest-short (a .station), refusal-length (a .n) (a .store), o .open-frame .kept .0, o .open-frame .ensures .0 .next, b .put-refusal .kept .0, b .put-refusal .ensures .next)
 
 same-length : tie.Need-same-length
 same-length c = search needs
@@ -36,10 +33,7 @@ returns c =
     let f = c .before .before in
     let b = f .before .before .before .before in
     let o = b .before .before .before .before in
-    let a = o .before .before .before .args in
-    let short : length (refusalText (a .n) (a .store)) ≤ 45 = omega (arith, refusal-length (a .n) (a .store)) in
-    framed (a .station) (o .open-frame .ensures) (b .put-refusal .ensures) (f .close-frame .ensures)
-    (omega (arith, frame-fits (a .station) (refusalText (a .n) (a .store)) short))
+    framed (o .before .before .before .args .station) (o .open-frame .ensures) (b .put-refusal .ensures) (f .close-frame .ensures)
 
 pub put-refused-spec : {M : Type 1} → statement M
 put-refused-spec =

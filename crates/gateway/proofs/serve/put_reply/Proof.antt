@@ -1,13 +1,10 @@
 -- `o` is where the frame was opened, `b` where its body was put, and `f` where it was closed.
-use Prim.Native.Nat.{_≤_}
 use mathlib.Core.Bool.{true}
 use native.Mathlib.Omega.{arith}
 use borrow.Author.Needs.{needs}
-use lib.ListN.{length}
 use Rattle.text.proofs.Digits.{shortest-short}
 use Rattle.frame.proofs.Writing.{opening-length, framed}
-use Rattle.harl.specs.Reply.{outcomeText}
-use Rattle.harl.proofs.Bodies.{outcome-length, performed-text, frame-fits}
+use Rattle.harl.proofs.Bodies.{outcome-length, performed-text}
 use Rattle.gateway.proofs.serve.put_reply.Statement.{statement}
 use Rattle.gateway.proofs.serve.put_reply.Tie as tie
 
@@ -20,14 +17,14 @@ put-outcome-requires : tie.Need-put-outcome-requires
 put-outcome-requires c κs =
     let o = c .before .before .before in
     let a = o .before .before .before .args in
-    omega (arith, opening-length (a .station), shortest-short (a .station), outcome-length true (a .outcome) .1, o .open-frame .kept .0, o .open-frame .ensures .next)
+    omega (arith, opening-length (a .station), shortest-short (a .station), outcome-length true (a .outcome) .1, o .open-frame .kept .0, o .open-frame .ensures .0 .next)
 
 close-frame-requires : tie.Need-close-frame-requires
 close-frame-requires c κs =
     let b = c .before .before .before in
     let o = b .before .before .before .before in
     let a = o .before .before .before .args in
-    omega (arith, opening-length (a .station), shortest-short (a .station), outcome-length true (a .outcome) .1, o .open-frame .kept .0, o .open-frame .ensures .next, b .put-outcome .kept .0, b .put-outcome .ensures .next)
+    omega (arith, opening-length (a .station), shortest-short (a .station), outcome-length true (a .outcome) .1, o .open-frame .kept .0, o .open-frame .ensures .0 .next, b .put-outcome .kept .0, b .put-outcome .ensures .next)
 
 same-length : tie.Need-same-length
 same-length c = search needs
@@ -37,11 +34,7 @@ returns c =
     let f = c .before .before in
     let b = f .before .before .before .before in
     let o = b .before .before .before .before in
-    let a = o .before .before .before .args in
-    let short : length (outcomeText true (a .outcome)) ≤ 45 = omega (arith, outcome-length true (a .outcome) .1) in
-    rw performed-text at
-    (framed (a .station) (o .open-frame .ensures) (b .put-outcome .ensures) (f .close-frame .ensures)
-    (omega (arith, frame-fits (a .station) (outcomeText true (a .outcome)) short)))
+    rw performed-text at (framed (o .before .before .before .args .station) (o .open-frame .ensures) (b .put-outcome .ensures) (f .close-frame .ensures))
 
 pub put-reply-spec : {M : Type 1} → statement M
 put-reply-spec =

@@ -6,7 +6,7 @@ use mathlib.Core.List.{List}
 use native.Mathlib.Omega.{arith}
 use borrow.Author.Needs.{needs}
 use lib.ListN.{length}
-use Rattle.text.specs.Put.{Put}
+use Rattle.text.specs.Put.{PutAt}
 use Rattle.frame.specs.Frame.{frameOf}
 use Rattle.commands.specs.declared.request.Request.{Request}
 use Rattle.harl.specs.declared.body.Judged.the-variants.{Accepted, Refused}
@@ -23,11 +23,11 @@ use Rattle.gateway.proofs.serve.serve_body.Statement.{statement}
 use Rattle.gateway.proofs.serve.serve_body.Tie as tie
 
 -- what was put at the front of the area is the reply, and had room
-put-wrote : {n m : ℕ} {xs ys : List ℕ} (s : ℕ) (text : List ℕ) → length text ≤ 35 → 64 ≤ length xs → Put xs 0 (frameOf s text) m ys → Wrote (record { number = n; bytes = frameOf s text }) xs (record { number = n; length = m }) ys
+put-wrote : {n m : ℕ} {xs ys : List ℕ} (s : ℕ) (text : List ℕ) → length text ≤ 35 → 64 ≤ length xs → PutAt xs 0 (frameOf s text) m ys → Wrote (record { number = n; bytes = frameOf s text }) xs (record { number = n; length = m }) ys
 put-wrote s text short room w = wrote-all w (omega (arith, frame-fits s text (omega arith)))
 
 module _ {k s : ℕ} {body : List ℕ} {t : Tables} {xs ys : List ℕ} {m : ℕ} (room : 64 ≤ length xs) where
-  asked-served : {r : Request} {o : Outcome} {t′ : Tables} → readBody body ≡ Accepted r → Performed k r t t′ o → Put xs 0 (frameOf s (performedText o)) m ys → BodyServed k s body t xs (record { number = 0; length = m }) t′ ys
+  asked-served : {r : Request} {o : Outcome} {t′ : Tables} → readBody body ≡ Accepted r → Performed k r t t′ o → PutAt xs 0 (frameOf s (performedText o)) m ys → BodyServed k s body t xs (record { number = 0; length = m }) t′ ys
   unfolding respond
   asked-served {r} {o} e p w =
       record {
@@ -35,7 +35,7 @@ module _ {k s : ℕ} {body : List ℕ} {t : Tables} {xs ys : List ℕ} {m : ℕ}
         tables-are = rw e (p .tables);
       }
 
-  refused-served : {n : ℕ} {store : Bool} → readBody body ≡ Refused n store → Put xs 0 (frameOf s (refusalText n store)) m ys → BodyServed k s body t xs (record { number = n; length = m }) t ys
+  refused-served : {n : ℕ} {store : Bool} → readBody body ≡ Refused n store → PutAt xs 0 (frameOf s (refusalText n store)) m ys → BodyServed k s body t xs (record { number = n; length = m }) t ys
   unfolding respond
   refused-served {n} {store} e w =
       record {

@@ -55,7 +55,7 @@ put-outcome-requires c κs =
     let o = c .before .before .before in
     let v = o .before .before .before in
     let a = v .before .before .before .before .before .before .before .args in
-    omega (arith, opening-length (a .station), shortest-short (a .station), outcome-length (v .before .rule-of .result .store) (a .outcome) .1, o .open-frame .kept .0, o .open-frame .ensures .next)
+    omega (arith, opening-length (a .station), shortest-short (a .station), outcome-length (v .before .rule-of .result .store) (a .outcome) .1, o .open-frame .kept .0, o .open-frame .ensures .0 .next)
 
 close-frame-requires : tie.Need-close-frame-requires
 close-frame-requires c κs =
@@ -63,7 +63,7 @@ close-frame-requires c κs =
     let o = b .before .before .before .before in
     let v = o .before .before .before in
     let a = v .before .before .before .before .before .before .before .args in
-    omega (arith, opening-length (a .station), shortest-short (a .station), outcome-length (v .before .rule-of .result .store) (a .outcome) .1, o .open-frame .kept .0, o .open-frame .ensures .next, b .put-outcome .kept .0, b .put-outcome .ensures .next)
+    omega (arith, opening-length (a .station), shortest-short (a .station), outcome-length (v .before .rule-of .result .store) (a .outcome) .1, o .open-frame .kept .0, o .open-frame .ensures .0 .next, b .put-outcome .kept .0, b .put-outcome .ensures .next)
 
 same-length : tie.Need-same-length
 same-length c = search needs
@@ -83,7 +83,7 @@ returns-4 c =
     let short : length (outcomeText (rule .store) (a .outcome)) ≤ 45 = omega (arith, outcome-length (rule .store) (a .outcome) .1) in
     rw (le-ltb _ _ (j .before .if1 .left), ← j .judge-asked .ensures, eq-eqb _ _ (p .before .if2 .left), ← p .parts-of .ensures, ← v .before .rule-of .ensures, z)
     (let fits : length (frameOf (a .station) (outcomeText (rule .store) (a .outcome))) ≤ length (a .area .now) = omega (arith, frame-fits (a .station) (outcomeText (rule .store) (a .outcome)) short) in
-    wrote-all (framed (a .station) (o .open-frame .ensures) (b .put-outcome .ensures) (f .close-frame .ensures) fits) fits)
+    wrote-all (framed (a .station) (o .open-frame .ensures) (b .put-outcome .ensures) (f .close-frame .ensures)) fits)
 
 pub write-reply-spec : {M : Type 1} → statement M
 write-reply-spec =

@@ -40,14 +40,14 @@ put-body-requires c κs =
     let o = c .before .before .before .before in
     let j = o .before .before .before in
     let a = j .before .before .before .args in
-    omega (arith, opening-length (a .station), shortest-short (a .station), body-length (c .parts-of .result) .1, o .open-frame .kept .0, o .open-frame .ensures .next)
+    omega (arith, opening-length (a .station), shortest-short (a .station), body-length (c .parts-of .result) .1, o .open-frame .kept .0, o .open-frame .ensures .0 .next)
 
 close-frame-requires : tie.Need-close-frame-requires
 close-frame-requires c κs =
     let b = c .before .before .before in
     let o = b .before .before .before .before .before in
     let st = o .before .before .before .before .before .before .args .station in
-    omega (arith, opening-length st, shortest-short st, body-length (b .before .parts-of .result) .1, o .open-frame .kept .0, o .open-frame .ensures .next, b .put-body .kept .0, b .put-body .ensures .next)
+    omega (arith, opening-length st, shortest-short st, body-length (b .before .parts-of .result) .1, o .open-frame .kept .0, o .open-frame .ensures .0 .next, b .put-body .kept .0, b .put-body .ensures .next)
 
 same-length : tie.Need-same-length
 same-length c = search needs
@@ -64,7 +64,7 @@ returns-3 c =
     let z : judgeAsked (a .station) (a .request) ≡ 0 = sym (j .judge-asked .ensures) ∙ o .before .before .if2 .left in
     rw (le-ltb _ _ (j .before .if1 .left), z, ← p .parts-of .ensures)
     (let fits : length (frameOf (a .station) (bodyText (p .parts-of .result))) ≤ length (a .area .now) = omega (arith, frame-fits (a .station) (bodyText (p .parts-of .result)) (body-length (p .parts-of .result) .1)) in
-    wrote-all (framed (a .station) (o .open-frame .ensures) (b .put-body .ensures) (f .close-frame .ensures) fits) fits)
+    wrote-all (framed (a .station) (o .open-frame .ensures) (b .put-body .ensures) (f .close-frame .ensures)) fits)
 
 pub write-request-spec : {M : Type 1} → statement M
 write-request-spec =

@@ -1,6 +1,6 @@
 use native.Mathlib.Omega.{arith}
 use borrow.Author.Needs.{needs}
-use Rattle.text.proofs.Laws.{put-then}
+use Rattle.text.proofs.Laws.{put-at, put-at-then}
 use Rattle.text.proofs.Digits.{two-length}
 use Rattle.lines.specs.Lines.{answerLine}
 use Rattle.lines.proofs.Laws.{answer-length}
@@ -34,7 +34,7 @@ returns c =
     let d = c .before .before in
     let r = d .before .before .before .before in
     let p = r .before .before .before .before in
-    put-then (p .put-two-digits .ensures) (put-then (r .put-reply .ensures) (d .put-byte .ensures))
+    put-at-then (put-at (p .put-two-digits .ensures)) (put-at-then (r .put-reply .ensures) (put-at (d .put-byte .ensures)))
 
 pub put-answer-spec : {M : Type 1} → statement M
 put-answer-spec =

@@ -2,7 +2,7 @@ use mathlib.Core.Path.{ap}
 use native.Mathlib.Omega.{arith}
 use borrow.Author.Needs.{needs}
 use lib.ListN.{length}
-use Rattle.text.proofs.Laws.{put-none, put-then}
+use Rattle.text.proofs.Laws.{put-at, put-at-none, put-at-then}
 use Rattle.lines.proofs.Laws.{reply-none, reply-some}
 use Rattle.lines.proofs.writer.put_reply.Statement.{statement}
 use Rattle.lines.proofs.writer.put_reply.Tie as tie
@@ -10,7 +10,7 @@ use Rattle.lines.proofs.writer.put_reply.Tie as tie
 returns : tie.Need-returns
 returns c =
     let a = c .before .before .before .args in
-    rw (reply-none (a .reply .now) (c .if1 .taken)) (put-none (a .out .now) (a .at))
+    rw (reply-none (a .reply .now) (c .if1 .taken)) (put-at-none (a .out .now) (a .at))
 
 put-byte-requires : tie.Need-put-byte-requires
 put-byte-requires c κs =
@@ -31,7 +31,7 @@ returns-2 c =
     let q = c .before .before in
     let p = q .before .before .before .before in
     let r = reply-some (p .before .before .before .before .before .args .reply .now) (p .before .before .if1 .left) in
-    rw r (put-then (p .put-byte .ensures) (q .put-hex .ensures))
+    rw r (put-at-then (put-at (p .put-byte .ensures)) (q .put-hex .ensures))
 
 pub put-reply-spec : {M : Type 1} → statement M
 put-reply-spec =

@@ -6,7 +6,7 @@ use native.Mathlib.Omega.{arith}
 use borrow.Author.Needs.{needs}
 use lib.ListN.{length, take}
 use lib.Seq.{length-take-le, length-sets}
-use Rattle.text.specs.Put.{Put}
+use Rattle.text.specs.Put.{PutAt}
 use Rattle.harl.specs.declared.message.Sent.{Sent}
 use Rattle.tables.specs.Tables.{Tables}
 use Rattle.model.specs.Box.{Box, answer}
@@ -34,7 +34,7 @@ module _ {b : Box} {slice xs ys : List ℕ} {sent : Sent} {t : Tables} (room : l
   line-fits : (n at end : ℕ) → at + 132 ≤ end → at + length (answerLine n (take (sent .length) ys)) ≤ end
   line-fits n at end h = omega (arith, answer-short n (take (sent .length) ys), length-take-le (sent .length) ys within, served-fits s)
 
-  answered : {zs us : List ℕ} {at r : ℕ} → Put zs at (answerLine (sent .number) (take (sent .length) ys)) r us → CallAnswered b slice zs at r us t
+  answered : {zs us : List ℕ} {at r : ℕ} → PutAt zs at (answerLine (sent .number) (take (sent .length) ys)) r us → CallAnswered b slice zs at r us t
   answered p =
       record {
         answer-is = rw (reply-is, number-is) at p;

@@ -7,7 +7,7 @@ use native.Mathlib.Omega.{arith}
 use borrow.Author.Needs.{needs}
 use lib.ListN.{length, take}
 use lib.Seq.{length-take-le}
-use Rattle.text.specs.Put.{Put}
+use Rattle.text.specs.Put.{PutAt}
 use Rattle.tables.specs.Tables.{Tables}
 use Rattle.model.specs.Box.{Box}
 use Rattle.lines.specs.declared.reader.Line.{Line}
@@ -48,7 +48,7 @@ module _ (line xs : List ℕ) {sl : List ℕ} {what : Line} {n : ℕ} (room : le
 
 -- ---- a line that is no call
 
-none-answered : {b : Box} {line zs us : List ℕ} {at r : ℕ} → isCall line ≡ false → Put zs at noCallLine r us → LineAnswered b line zs at r us (b .tables)
+none-answered : {b : Box} {line zs us : List ℕ} {at r : ℕ} → isCall line ≡ false → PutAt zs at noCallLine r us → LineAnswered b line zs at r us (b .tables)
 unfolding lineAnswer boxAfter
 none-answered q p =
     record { answer-is = rw q p; tables-are = rw q; short = omega (arith, p .next) }

@@ -10,7 +10,7 @@ use Rattle.text.proofs.whole.put_leading.Tie as tie
 returns : tie.Need-returns
 returns c =
     let a = c .before .before .args in
-    rw (leading-none (a .unit) (a .v) (c .if1 .taken)) (put-none (a .area .now) (a .at))
+    rw (leading-none (a .unit) (a .v) (c .if1 .taken)) (put-none (a .area .now) (a .to))
 
 put-digit-requires : tie.Need-put-digit-requires
 put-digit-requires c κs =
