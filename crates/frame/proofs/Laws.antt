@@ -13,6 +13,7 @@ use lib.Seq.{slice, take-nil, take-all, take-length, take-append-seam, drop-appe
 use lib.Dec.{eqb}
 use Rattle.text.specs.Scan.{until, before}
 use Rattle.text.proofs.Laws.{Skips, skips-stop}
+use Rattle.text.proofs.Fields.{until-within}
 use Rattle.frame.specs.Fields.{first, more, fields}
 use Rattle.frame.specs.Frame.{Reading, Read}
 
@@ -23,17 +24,6 @@ part-is zero e s = ap (λ (n : ℕ). take n s) (sub-zero e)
 part-is (suc a) zero s = rw (zero-sub (suc a))
 part-is (suc a) (suc e) [] = take-nil (suc e - suc a)
 part-is (suc a) (suc e) (b ∷ s) = rw (suc-sub-suc e a) (part-is a e s)
-
--- ---- a search stays inside
-
-pub until-within : (test : ℕ → Bool) (s : List ℕ) → until test s ≤ length s
-unfolding until
-until-within test [] = omega arith
-until-within test (b ∷ bs) = go (test b) (until-within test bs)
-  where
-    go : (t : Bool) → until test bs ≤ length bs → cond t zero (suc (until test bs)) ≤ suc (length bs)
-    go true h = omega arith
-    go false h = omega arith
 
 -- ---- the first field and those after it, by the place of the first SP
 

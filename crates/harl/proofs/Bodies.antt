@@ -4,6 +4,7 @@ use mathlib.Core.Path.{_≡_, refl}
 use mathlib.Core.Bool.{Bool, true, false, cond}
 use mathlib.Core.List.{List, []}
 use native.Mathlib.Omega.{arith}
+use borrow.Author.Tests.{ltb-true}
 use lib.Dec.{eqb}
 use lib.ListN.{length, length-append}
 use Rattle.text.specs.Put.{PutAt}
@@ -13,14 +14,13 @@ use Rattle.text.proofs.Digits.{shortest-some, shortest-short}
 use Rattle.frame.specs.Frame.{isStray, readFrame, frameOf}
 use Rattle.frame.proofs.Writing.{frame-length}
 use Rattle.frame.proofs.Reading.{frame-reads-back}
-use Rattle.commands.specs.declared.command.Command.{Command}
-use Rattle.commands.specs.declared.command.Command.the-variants.{Lnt, Snt, Lnd, Snd, Lnl, Snl, Lnib, Lnob, Snob, Lnid, Lnod, Snod, Lnbb, Snbb, Lnbd, Snbd}
 use Rattle.commands.specs.declared.command.Kind.{Kind}
 use Rattle.commands.specs.declared.request.Row.{Row}
 use Rattle.commands.specs.declared.request.Parts.{Parts}
 use Rattle.harl.specs.declared.reply.Outcome.{Outcome}
 use Rattle.harl.specs.declared.reply.Outcome.the-variants as outcome
 use Rattle.commands.specs.Command.{nameOf, ruleOf}
+use Rattle.commands.proofs.Names.{name}
 use Rattle.harl.specs.Body.{dataPart, bodyText}
 use Rattle.harl.specs.Reply.{contentOf, unknownText, statusText, refusalText, performedText, outcomeText}
 use Rattle.harl.specs.Message.{Wrote}
@@ -29,25 +29,6 @@ use Rattle.data.proofs.Bounds.{few-values}
 use Rattle.data.proofs.Texts.{data-length}
 
 -- ---- lengths
-
-pub name-length : (c : Command) → length (nameOf c) ≤ 4
-unfolding nameOf
-name-length Lnt = omega arith
-name-length Snt = omega arith
-name-length Lnd = omega arith
-name-length Snd = omega arith
-name-length Lnl = omega arith
-name-length Snl = omega arith
-name-length Lnib = omega arith
-name-length Lnob = omega arith
-name-length Snob = omega arith
-name-length Lnid = omega arith
-name-length Lnod = omega arith
-name-length Snod = omega arith
-name-length Lnbb = omega arith
-name-length Snbb = omega arith
-name-length Lnbd = omega arith
-name-length Snbd = omega arith
 
 -- the parts of a body, one after the other
 pub body-parts : (p : Parts) → length (bodyText p) ≡ length (nameOf (p .command)) + (1 + (length (shortest (p .number)) + length (dataPart (ruleOf (p .command) .store) (ruleOf (p .command) .kind) (p .values))))
@@ -61,7 +42,7 @@ part-length false k r = omega arith
 pub body-length : (p : Parts) → (1 ≤ length (bodyText p)) × (length (bodyText p) ≤ 45)
 body-length p =
     let d = part-length (ruleOf (p .command) .store) (ruleOf (p .command) .kind) (p .values) in
-    (omega (arith, body-parts p), omega (arith, body-parts p, name-length (p .command), shortest-short (p .number), few-values (ruleOf (p .command) .kind)))
+    (omega (arith, body-parts p), omega (arith, body-parts p, ltb-true (length (nameOf (p .command))) 5 (name (p .command) .most), shortest-short (p .number), few-values (ruleOf (p .command) .kind)))
 
 pub status-length : (t : Bool) (n : ℕ) → (1 ≤ length (statusText t n)) × (length (statusText t n) ≤ 3)
 unfolding statusText digit

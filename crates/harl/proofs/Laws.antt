@@ -62,13 +62,3 @@ fitting rule d = go (rule .store) (eqb (codeOf (contentOf d .kind)) (codeOf (rul
     go false false u p q r e = absurd (omega arith)
     go false true false p q r e = absurd (omega arith)
     go false true true p q r e = record { loads = p; kind = kind-is _ _ (eqb-true _ _ q); range = r }
-
--- byte strings that compare as the same are equal
-pub same-is : (s t : List ℕ) → same s t ≡ true → s ≡ t
-unfolding same
-same-is [] [] e = refl
-same-is [] (y ∷ ys) e = let z : _≡_ {A = ℕ} 0 1 = cc in absurd (omega arith)
-same-is (x ∷ xs) [] e = let z : _≡_ {A = ℕ} 0 1 = cc in absurd (omega arith)
-same-is (x ∷ xs) (y ∷ ys) e =
-    let p = and-eq-true-iff (eqb x y) (same xs ys) .0 e in
-    ap₂ _∷_ (eqb-true x y (p .0)) (same-is xs ys (p .1))

@@ -30,7 +30,8 @@ use Rattle.commands.specs.declared.request.Parts.{Parts}
 use Rattle.data.specs.declared.data.Values.the-variants as values
 use Rattle.harl.specs.declared.body.Shape.the-variants as shape
 use Rattle.harl.specs.declared.body.Judged.the-variants.{Accepted}
-use Rattle.commands.specs.Command.{same, nameOf, among, commandOf, ruleOf}
+use Rattle.commands.specs.Command.{nameOf, commandOf, ruleOf}
+use Rattle.commands.proofs.Names.{name, name-solid}
 use Rattle.commands.specs.Request.{one, partsOf, requestOf}
 use Rattle.data.specs.Ranges.{countOf, judge, allInRange}
 use Rattle.data.specs.Data.{dataText}
@@ -44,36 +45,31 @@ use Rattle.data.proofs.Texts.{shortest-solid, data-clean, kept, data-back}
 
 -- ---- the sixteen commands, by computation
 
--- the name is read as the command, has no SP and no stray byte, the numbers have at most 4 digits, and the name, the
--- last number and the data have at most 41 bytes with an SP before the data
+-- the name has no stray byte, the numbers have at most 4 digits, and the name, the last number and the data have at most
+-- 41 bytes with an SP before the data
 pub record Sound (c : Command) : Type 0 where
-  pub named : commandOf (nameOf c) ≡ Is c
-  pub solid : before 32 (nameOf c) ≡ length (nameOf c)
   pub clean : stray (nameOf c) ≡ length (nameOf c)
   pub small : ltb (ruleOf c .last) 10000 ≡ true
   pub short : ltb (length (nameOf c) + (length (shortest (ruleOf c .last)) + 9 * countOf (ruleOf c .kind))) 42 ≡ true
 
 pub sound : (c : Command) → Sound c
-unfolding commandOf among same nameOf until shortest leading digit
-sound Lnt = record { named = refl; solid = refl; clean = refl; small = refl; short = refl }
-sound Snt = record { named = refl; solid = refl; clean = refl; small = refl; short = refl }
-sound Lnd = record { named = refl; solid = refl; clean = refl; small = refl; short = refl }
-sound Snd = record { named = refl; solid = refl; clean = refl; small = refl; short = refl }
-sound Lnl = record { named = refl; solid = refl; clean = refl; small = refl; short = refl }
-sound Snl = record { named = refl; solid = refl; clean = refl; small = refl; short = refl }
-sound Lnib = record { named = refl; solid = refl; clean = refl; small = refl; short = refl }
-sound Lnob = record { named = refl; solid = refl; clean = refl; small = refl; short = refl }
-sound Snob = record { named = refl; solid = refl; clean = refl; small = refl; short = refl }
-sound Lnid = record { named = refl; solid = refl; clean = refl; small = refl; short = refl }
-sound Lnod = record { named = refl; solid = refl; clean = refl; small = refl; short = refl }
-sound Snod = record { named = refl; solid = refl; clean = refl; small = refl; short = refl }
-sound Lnbb = record { named = refl; solid = refl; clean = refl; small = refl; short = refl }
-sound Snbb = record { named = refl; solid = refl; clean = refl; small = refl; short = refl }
-sound Lnbd = record { named = refl; solid = refl; clean = refl; small = refl; short = refl }
-sound Snbd = record { named = refl; solid = refl; clean = refl; small = refl; short = refl }
-
-name-solid : (c : Command) → Skips (λ b. eqb b 32) (nameOf c)
-name-solid c = skips-all (λ b. eqb b 32) (nameOf c) (sound c .solid)
+unfolding nameOf until shortest leading digit
+sound Lnt = record { clean = refl; small = refl; short = refl }
+sound Snt = record { clean = refl; small = refl; short = refl }
+sound Lnd = record { clean = refl; small = refl; short = refl }
+sound Snd = record { clean = refl; small = refl; short = refl }
+sound Lnl = record { clean = refl; small = refl; short = refl }
+sound Snl = record { clean = refl; small = refl; short = refl }
+sound Lnib = record { clean = refl; small = refl; short = refl }
+sound Lnob = record { clean = refl; small = refl; short = refl }
+sound Snob = record { clean = refl; small = refl; short = refl }
+sound Lnid = record { clean = refl; small = refl; short = refl }
+sound Lnod = record { clean = refl; small = refl; short = refl }
+sound Snod = record { clean = refl; small = refl; short = refl }
+sound Lnbb = record { clean = refl; small = refl; short = refl }
+sound Snbb = record { clean = refl; small = refl; short = refl }
+sound Lnbd = record { clean = refl; small = refl; short = refl }
+sound Snbd = record { clean = refl; small = refl; short = refl }
 
 name-clean : (c : Command) → Skips isStray (nameOf c)
 name-clean c = skips-all isStray (nameOf c) (sound c .clean)
@@ -143,7 +139,7 @@ body-back r e =
     let p = judged-ok c n v e in
     rw (
       fields-cons (nameOf c) (shortest n ++ dataPart (ruleOf c .store) (ruleOf c .kind) v) (name-solid c),
-      sound c .named,
+      name c .named,
       shape-back (ruleOf c) n v (p .0) (p .1),
       parted r .values-are,
       e,

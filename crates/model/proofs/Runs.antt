@@ -3,7 +3,8 @@ use mathlib.Core.Path.{refl}
 use Rattle.text.specs.Scan.{until}
 use Rattle.text.specs.Whole.{digitsOnto, readWhole, digit, leading, shortest, padded}
 use Rattle.text.specs.Hundredths.{decimals, magnitude, readHundredths, magnitudeText, hundredthsText}
-use Rattle.frame.specs.Checksum.{xorOnto, lrcOf}
+use Rattle.text.specs.Put.{xorOnto}
+use Rattle.frame.specs.Checksum.{lrcOf}
 use Rattle.frame.specs.Fields.{first, more, fields}
 use Rattle.frame.specs.Frame.{stationOf, readInner, readFrame, opening, closing, frameOf}
 use Rattle.commands.specs.Command.{same, nameOf, among, commandOf}

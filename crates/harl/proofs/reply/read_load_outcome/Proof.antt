@@ -13,7 +13,7 @@ use Rattle.commands.specs.declared.command.Kind.{Kind}
 use Rattle.harl.specs.declared.reply.Outcome.the-variants as outcome
 use Rattle.harl.specs.declared.reply.Carried.the-variants as carried
 use Rattle.harl.specs.Reply.{unknownText, asData, readStatus, readLoadOutcome}
-use Rattle.harl.proofs.Laws.{same-is}
+use Rattle.commands.proofs.Names.{same-is}
 use Rattle.harl.proofs.reply.read_load_outcome.Statement.{statement}
 use Rattle.harl.proofs.reply.read_load_outcome.Tie as tie
 

@@ -13,7 +13,7 @@ use Rattle.text.proofs.Decimals.{whole-below}
 use Rattle.harl.specs.declared.reply.Outcome.the-variants as outcome
 use Rattle.harl.specs.declared.reply.Carried.the-variants as carried
 use Rattle.harl.specs.Reply.{doneText, readStatus}
-use Rattle.harl.proofs.Laws.{same-is}
+use Rattle.commands.proofs.Names.{same-is}
 use Rattle.harl.proofs.reply.read_status.Statement.{statement}
 use Rattle.harl.proofs.reply.read_status.Tie as tie
 
