@@ -1,3 +1,5 @@
 pub mod Laws
+pub mod Pass
+pub mod Station
 pub mod Writing
 pub mod Reading

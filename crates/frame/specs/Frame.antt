@@ -1,5 +1,5 @@
 -- Frames, read and written (document 01, "The frame" and refusals 2 to 7).
-use Prim.Native.Nat.{ℕ, _+_, _-_, _≤_}
+use Prim.Native.Nat.{ℕ, _+_, _-_, _≤_, _<_}
 use mathlib.Core.Path.{_≡_}
 use mathlib.Core.Bool.{Bool, cond, not, _||_}
 use mathlib.Core.List.{List, [], _∷_, _++_}
@@ -44,6 +44,16 @@ upTo99 Malformed = 0
 -- the station that a text is: decimal, 1 to 99, with no leading zero; 0 where it is none
 unfoldable pub stationOf : List ℕ → ℕ
 stationOf t = cond (eqb (getD t 0 0) 48) 0 (upTo99 (readWhole t))
+
+-- the station that stands before the first SP; 0 where none does, or there is no SP
+abbrev pub stationAt : List ℕ → ℕ
+stationAt t = cond (eqb (before 32 t) (length t)) 0 (stationOf (take (before 32 t) t))
+
+-- that station was read: SP follows its one digit, or its two
+pub record Station (t : List ℕ) (station : ℕ) : Type 0 where
+  pub value-is : station ≡ stationAt t
+  pub one-digit : 0 < station → station < 10 → before 32 t ≡ 1
+  pub two-digits : 10 ≤ station → before 32 t ≡ 2
 
 -- the station was read: 0 is none
 abbrev pub withStation : ℕ → List ℕ → Reading

@@ -1,77 +1,82 @@
 // The frame reader: checks 2 to 7 of a slice, in their order.
 use crate::ETX;
 use crate::STX;
-use crate::checksum::lrc;
-use text::scan::find;
-use text::whole::Whole;
-use text::whole::read_whole;
 ghost use mathlib.Core.Path.{_≡_};
-ghost use Prim.Native.Nat.{_≤_, _+_};
+ghost use mathlib.Core.Bool.{false};
+ghost use Prim.Native.Nat.{_≤_};
 ghost use lib.ListN.{length};
-ghost use Rattle.frame.specs.Frame.{stray, stationOf, readInner, readFrame, Read};
+ghost use lib.Dec.{ltb};
+ghost use Rattle.frame.specs.Checksum.{lrcOf};
+ghost use Rattle.frame.specs.Frame.{stray, Station, readInner, readFrame, Read};
 
-// The index of the first byte outside 20h..7Eh; s's length where there is none.
-fn find_stray(s: &[u8]) -> usize
-    ensures { λ r. ⌜ (r ≡ stray (now (s .entry))) × (r ≤ length (now (s .entry))) ⌝ }
+// What `lrc_and_stray` finds in a text.
+pub struct Scanned {
+    pub sum: u8,
+    pub stray: bool,
+}
+
+// The exclusive or of all bytes of s, and whether one of them is outside 20h..7Eh.
+// One pass over s, to its end, with no early exit.
+fn lrc_and_stray(s: &[u8]) -> Scanned
+    ensures { λ r. ⌜ r .sum ≡ lrcOf (now (s .entry)) ⌝ }
+    ensures { λ r. ⌜ r .stray ≡ ltb (stray (now (s .entry))) (length (now (s .entry))) ⌝ }
 {
+    let mut sum: u8 = 0;
+    let mut stray = false;
     let mut i = 0;
     while i < s.len() {
         let b = s[i];
-        if b < 32 {
-            return i;
-        }
-        if 126 < b {
-            return i;
-        }
+        sum = sum ^ b;
+        stray = stray | (b < 32) | (126 < b);
         i += 1;
     }
-    i
+    Scanned { sum, stray }
 }
 
-// The station that a text is; 0 where it is none.
-fn read_station(digits: &[u8]) -> u8
-    ensures { λ r. ⌜ r ≡ stationOf (now (digits .entry)) ⌝ }
+// The station that stands before the first SP, of one or two digits; 0 where none does.
+fn read_station(inner: &[u8]) -> u8
+    requires { ⌜ 3 ≤ length (now inner) ⌝ }
+    ensures { λ r. ⌜ Station (now (inner .entry)) r ⌝ }
 {
-    if 0 < digits.len() {
-        if digits[0] == b'0' {
-            return 0;
-        }
+    let first = inner[0];
+    if first < b'1' {
+        return 0;
     }
-    let w = read_whole(digits);
-    match w {
-        Whole::Value(v) => {
-            if 99 < v {
-                return 0;
-            }
-            v as u8
-        }
-        Whole::Malformed => 0,
+    if b'9' < first {
+        return 0;
     }
+    let second = inner[1];
+    if second == b' ' {
+        return first - b'0';
+    }
+    if second < b'0' {
+        return 0;
+    }
+    if b'9' < second {
+        return 0;
+    }
+    if inner[2] != b' ' {
+        return 0;
+    }
+    (first - b'0') * 10 + (second - b'0')
 }
 
-// Checks 6 and 7, of what stands between STX and ETX.
+// Check 7, of what stands between STX and ETX, where no byte is stray.
 fn read_inner<'a>(inner: &'a [u8], number: &mut u8, station: &mut u8) -> &'a [u8]
+    requires { ⌜ (3 ≤ length (now inner)) × (ltb (stray (now inner)) (length (now inner)) ≡ false) ⌝ }
     ensures { λ r. ⌜ Read (readInner (now (inner .entry))) (now (number .exit)) (now (station .exit)) (now r) ⌝ }
 {
-    *station = 0;
-    if find_stray(inner) < inner.len() {
-        *number = 6;
-        return &inner[..0];
-    }
-    let e = find(inner, 0, b' ');
-    if e == inner.len() {
-        *number = 7;
-        return &inner[..0];
-    }
-    let value = read_station(&inner[..e]);
+    let value = read_station(inner);
+    *station = value;
     if value == 0 {
         *number = 7;
         return &inner[..0];
     }
     *number = 0;
-    *station = value;
-    let from = e + 1;
-    &inner[from..]
+    if value < 10 {
+        return &inner[2..];
+    }
+    &inner[3..]
 }
 
 // Reads a frame. Accepted: number 0, its station, and its body as a part of the slice. Refused: the number
@@ -97,10 +102,14 @@ pub fn read_frame<'a>(slice: &'a [u8], number: &mut u8, station: &mut u8) -> &'a
         *number = 4;
         return &slice[..0];
     }
+    let scanned = lrc_and_stray(&slice[1..etx]);
     let last = slice.len() - 1;
-    let sum = lrc(&slice[1..last]);
-    if slice[last] != sum {
+    if slice[last] != scanned.sum ^ ETX {
         *number = 5;
+        return &slice[..0];
+    }
+    if scanned.stray {
+        *number = 6;
         return &slice[..0];
     }
     read_inner(&slice[1..etx], number, station)

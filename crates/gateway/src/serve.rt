@@ -25,19 +25,29 @@ pub enum Found {
     Nowhere,
 }
 
-// The first slot that has a station; 0 is none's.
+// The first slot that has a station; 0 is none's. The tests go from slot 3 down, so that the first slot is kept,
+// and none of them returns, so that each compiles to a conditional move.
 fn find_slot(stations: &[u8; 4], station: u8) -> Found
     ensures { λ r. ⌜ r ≡ foundIn (now (stations .entry)) station ⌝ }
 {
     if station == 0 {
         return Found::Nowhere;
     }
-    let mut i = 0;
-    while i < 4 {
-        if stations[i] == station {
-            return Found::At(i);
-        }
-        i += 1;
+    let mut slot = 4;
+    if stations[3] == station {
+        slot = 3;
+    }
+    if stations[2] == station {
+        slot = 2;
+    }
+    if stations[1] == station {
+        slot = 1;
+    }
+    if stations[0] == station {
+        slot = 0;
+    }
+    if slot < 4 {
+        return Found::At(slot);
     }
     Found::Nowhere
 }

@@ -1,12 +1,10 @@
 -- The invariant: the bytes passed made the sum, and the rest is taken into it.
-use Prim.Native.Nat.{ℕ, _+_, _-_, _≤_, _<_}
+use Prim.Native.Nat.{_-_, _≤_}
 use mathlib.Core.Path.{_≡_, refl, sym, _∙_}
-use mathlib.Core.List.{List}
 use native.Mathlib.Omega.{arith}
-use lib.Bits.{bitXor}
-use lib.ListN.{length, getD, drop}
-use Rattle.text.proofs.Laws.{here, over}
+use lib.ListN.{length, drop}
 use Rattle.frame.specs.Checksum.{lrcOf, xorOnto}
+use Rattle.frame.proofs.Pass.{xor-step, xor-done}
 use Rattle.frame.proofs.checksum.lrc.Statement.{statement}
 use Rattle.frame.proofs.checksum.lrc.Tie as tie
 
@@ -15,14 +13,6 @@ Inv-loop s sum₀ i₀ sum i = (i ≤ length s) × (lrcOf s ≡ xorOnto sum (dro
 
 abbrev μ-loop : tie.MeasureT-loop
 μ-loop s sum₀ i₀ sum i = length s - i
-
-step : (s : List ℕ) (i sum : ℕ) → i < length s → xorOnto sum (drop i s) ≡ xorOnto (bitXor sum (getD s i 0)) (drop (i + 1) s)
-unfolding xorOnto
-step s i sum h = rw (here s i h)
-
-done : (s : List ℕ) (i sum : ℕ) → length s ≤ i → xorOnto sum (drop i s) ≡ sum
-unfolding xorOnto
-done s i sum h = rw (over s i h)
 
 loop-holds : tie.Need-loop-holds Inv-loop μ-loop
 unfolding lrcOf
@@ -40,12 +30,12 @@ loop-less c = omega arith
 loop-again : tie.Need-loop-again Inv-loop μ-loop
 loop-again c =
     let l = c .before .before in
-    (omega arith, l .loop .inv .1 ∙ step (l .before .args .s .now) (l .loop .i) (l .loop .sum) (omega arith))
+    (omega arith, l .loop .inv .1 ∙ xor-step (l .before .args .s .now) (l .loop .i) (l .loop .sum) (omega arith))
 
 returns : tie.Need-returns Inv-loop μ-loop
 returns c =
     let l = c .before in
-    sym (l .loop .inv .1 ∙ done (l .before .args .s .now) (l .loop .i) (l .loop .sum) (omega arith))
+    sym (l .loop .inv .1 ∙ xor-done (l .before .args .s .now) (l .loop .i) (l .loop .sum) (omega arith))
 
 pub lrc-spec : {M : Type 1} → statement M
 lrc-spec =

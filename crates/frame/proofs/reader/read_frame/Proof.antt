@@ -1,9 +1,11 @@
--- Each return goes by the checks passed before it: `sized`, `start`, `end` and `sum` are where they were.
-use mathlib.Core.Path.{sym}
+-- Each return goes by the checks passed before it: `sized`, `start`, `end` and `call` are where they were.
+use mathlib.Core.Path.{sym, _∙_}
+use native.Mathlib.Omega.{arith}
 use borrow.Author.Needs.{needs}
 use borrow.Author.Tests.{lt-ltb, le-ltb, eq-eqb, ne-eqb}
 use Rattle.frame.specs.Frame.{readFrame}
 use Rattle.frame.proofs.Laws.{part-is, answers}
+use Rattle.frame.proofs.Pass.{past-end, inner-stray}
 use Rattle.frame.proofs.reader.read_frame.Statement.{statement}
 use Rattle.frame.proofs.reader.read_frame.Tie as tie
 
@@ -31,7 +33,11 @@ returns-3 : tie.Need-returns-3
 unfolding readFrame
 returns-3 c =
     let sized = c .before .before .before in
-    simp (le-ltb _ _ (sized .before .if1 .left), le-ltb _ _ (sized .if2 .left), ne-eqb _ _ (c .before .if3 .taken)) answers
+    simp (
+      le-ltb _ _ (sized .before .if1 .left),
+      le-ltb _ _ (sized .if2 .left),
+      ne-eqb _ _ (c .before .if3 .taken),
+    ) answers
 
 sub-etx : tie.Need-sub-etx
 sub-etx c = search needs
@@ -47,22 +53,27 @@ unfolding readFrame
 returns-4 c =
     let start = c .before .before .before in
     let sized = start .before .before in
-    simp (le-ltb _ _ (sized .before .if1 .left), le-ltb _ _ (sized .if2 .left), eq-eqb _ _ (start .if3 .left), ne-eqb _ _ (c .before .if4 .taken)) answers
+    simp (
+      le-ltb _ _ (sized .before .if1 .left),
+      le-ltb _ _ (sized .if2 .left),
+      eq-eqb _ _ (start .if3 .left),
+      ne-eqb _ _ (c .before .if4 .taken),
+    ) answers
+
+sub-lrc-and-stray : tie.Need-sub-lrc-and-stray
+sub-lrc-and-stray c = search needs
+
+part-lrc-and-stray-start : tie.Need-part-lrc-and-stray-start
+part-lrc-and-stray-start c = search needs
+
+part-lrc-and-stray-end : tie.Need-part-lrc-and-stray-end
+part-lrc-and-stray-end c = search needs
+
+lrc-and-stray-requires : tie.Need-lrc-and-stray-requires
+lrc-and-stray-requires c κs = search needs
 
 sub-last : tie.Need-sub-last
 sub-last c = search needs
-
-sub-lrc : tie.Need-sub-lrc
-sub-lrc c = search needs
-
-part-lrc-start : tie.Need-part-lrc-start
-part-lrc-start c = search needs
-
-part-lrc-end : tie.Need-part-lrc-end
-part-lrc-end c = search needs
-
-lrc-requires : tie.Need-lrc-requires
-lrc-requires c κs = search needs
 
 shared-slice-read-if5 : tie.Need-shared-slice-read-if5
 shared-slice-read-if5 c = search needs
@@ -71,13 +82,35 @@ slice-aggregate-result-5 : tie.Need-slice-aggregate-result-5
 slice-aggregate-result-5 c = search needs
 
 returns-5 : tie.Need-returns-5
-unfolding readFrame
 returns-5 c =
-    let sum = c .before .before .before in
-    let end = sum .before .before in
+    let call = c .before .before .before .before in
+    let end = call .before .before in
     let start = end .before .before in
     let sized = start .before .before in
-    simp (le-ltb _ _ (sized .before .if1 .left), le-ltb _ _ (sized .if2 .left), eq-eqb _ _ (start .if3 .left), eq-eqb _ _ (end .if4 .left), sym (rw part-is at (sum .lrc .ensures)), ne-eqb _ _ (c .before .if5 .taken)) answers
+    let s = sized .before .before .before .args .slice .now in
+    let passed = past-end s (sized .before .if1 .left) (sized .if2 .left) (start .if3 .left) (end .if4 .left) in
+    let sum = rw part-is at (call .lrc-and-stray .ensures .0) in
+    rw (passed, ← sum, ne-eqb _ _ (c .before .if5 .taken)) answers
+
+slice-aggregate-result-6 : tie.Need-slice-aggregate-result-6
+slice-aggregate-result-6 c = search needs
+
+returns-6 : tie.Need-returns-6
+returns-6 c =
+    let call = c .before .before .before .before .before in
+    let end = call .before .before in
+    let start = end .before .before in
+    let sized = start .before .before in
+    let s = sized .before .before .before .args .slice .now in
+    let passed = past-end s (sized .before .if1 .left) (sized .if2 .left) (start .if3 .left) (end .if4 .left) in
+    let sum = rw part-is at (call .lrc-and-stray .ensures .0) in
+    let stray = rw part-is at (call .lrc-and-stray .ensures .1) in
+    rw (
+      passed,
+      ← sum,
+      eq-eqb _ _ (c .before .before .if5 .left),
+      inner-stray _ (sym stray ∙ c .before .if6 .taken),
+    ) answers
 
 sub-read-inner : tie.Need-sub-read-inner
 sub-read-inner c = search needs
@@ -89,17 +122,21 @@ part-read-inner-end : tie.Need-part-read-inner-end
 part-read-inner-end c = search needs
 
 read-inner-requires : tie.Need-read-inner-requires
-read-inner-requires c κs = search needs
+read-inner-requires c κs =
+    let call = c .before .before .before .before .before .before .before in
+    (omega arith, sym (call .lrc-and-stray .ensures .1) ∙ c .before .before .before .if6 .left)
 
-returns-6 : tie.Need-returns-6
-unfolding readFrame
-returns-6 c =
-    let sound = c .before .before .before .before in
-    let sum = sound .before .before in
-    let end = sum .before .before in
+returns-7 : tie.Need-returns-7
+returns-7 c =
+    let call = c .before .before .before .before .before .before .before .before in
+    let end = call .before .before in
     let start = end .before .before in
     let sized = start .before .before in
-    simp (le-ltb _ _ (sized .before .if1 .left), le-ltb _ _ (sized .if2 .left), eq-eqb _ _ (start .if3 .left), eq-eqb _ _ (end .if4 .left), sym (rw part-is at (sum .lrc .ensures)), eq-eqb _ _ (sound .if5 .left)) (rw part-is at (c .read-inner .ensures))
+    let s = sized .before .before .before .args .slice .now in
+    let passed = past-end s (sized .before .if1 .left) (sized .if2 .left) (start .if3 .left) (end .if4 .left) in
+    let sum = rw part-is at (call .lrc-and-stray .ensures .0) in
+    let sound = c .before .before .before .before .before in
+    rw (passed, ← sum, eq-eqb _ _ (sound .if5 .left)) (rw part-is at (c .read-inner .ensures))
 
 pub read-frame-spec : {M : Type 1} → statement M
 read-frame-spec =
@@ -116,16 +153,18 @@ read-frame-spec =
     shared-slice-read-if4
     slice-aggregate-result-4
     returns-4
+    sub-lrc-and-stray
+    part-lrc-and-stray-start
+    part-lrc-and-stray-end
+    lrc-and-stray-requires
     sub-last
-    sub-lrc
-    part-lrc-start
-    part-lrc-end
-    lrc-requires
     shared-slice-read-if5
     slice-aggregate-result-5
     returns-5
+    slice-aggregate-result-6
+    returns-6
     sub-read-inner
     part-read-inner-start
     part-read-inner-end
     read-inner-requires
-    returns-6)
+    returns-7)

@@ -1,79 +1,96 @@
--- Past the first test the text has no leading zero (`unled`): it is empty, or its first byte is another.
-use Prim.Native.Nat.{ℕ, _≤_}
-use mathlib.Core.Path.{_≡_, sym, _∙_}
-use mathlib.Core.List.{List}
-use mathlib.Core.Logic.{⊎-elim}
+-- Each return goes by the law of the bytes that its tests passed.
 use native.Mathlib.Omega.{arith}
 use borrow.Author.Needs.{needs}
-use borrow.Author.Tests.{lt-ltb, le-ltb, eq-eqb, ne-eqb}
-use lib.ListN.{length, getD, List·getD-eq-default}
-use Rattle.text.specs.Whole.{readWhole}
-use Rattle.text.specs.declared.whole.Whole.{Whole}
-use Rattle.text.specs.declared.whole.Whole.the-variants.{Value, Malformed}
-use Rattle.frame.specs.Frame.{stationOf, upTo99}
+use borrow.Author.Tests.{le-leb, lt-leb}
+use Rattle.frame.proofs.Station.{by-bytes, first-low, first-high, one-digit, second-bad, third-bad, two-digits}
 use Rattle.frame.proofs.reader.read_station.Statement.{statement}
 use Rattle.frame.proofs.reader.read_station.Tie as tie
 
--- an empty text has no leading zero
-empty : (t : List ℕ) → length t ≤ 0 → getD t 0 0 ≡ 48 → ⊥
-empty t h e = omega (arith, List·getD-eq-default t 0 {n = 0} h)
-
-station-is : (t : List ℕ) (w : Whole) → (getD t 0 0 ≡ 48 → ⊥) → readWhole t ≡ w → stationOf t ≡ upTo99 w
-unfolding stationOf
-station-is t w h e = rw (ne-eqb _ _ h, e)
-
-shared-slice-read-if2 : tie.Need-shared-slice-read-if2
-shared-slice-read-if2 c = search needs
+shared-slice-read-first : tie.Need-shared-slice-read-first
+shared-slice-read-first c = search needs
 
 returns : tie.Need-returns
-unfolding stationOf
-returns c = simp (eq-eqb _ _ (c .if2 .taken))
-
-read-whole-requires : tie.Need-read-whole-requires
-read-whole-requires c κs = search needs
-
-enum-known-w : tie.Need-enum-known-w
-enum-known-w c = search needs
+returns c =
+    let s = c .before .before in
+    by-bytes (s .args .inner .now) (s .pre) (first-low _ _ _ _ (omega arith))
 
 returns-2 : tie.Need-returns-2
 returns-2 c =
-    let w = c .before .before in
-    let call = w .before .before in
-    let t = call .before .before .before .args .digits .now in
-    let unled = ⊎-elim (λ o. o .2 .left) (λ o. empty t (o .left)) (call .before .if1 .came) in
-    sym (station-is t (Value (w .w .given .0 .0)) unled (sym (call .read-whole .ensures) ∙ w .w .given .1) ∙ rw (lt-ltb _ _ (c .if3 .taken)))
+    let s = c .before .before .before in
+    by-bytes (s .args .inner .now) (s .pre) (first-high _ _ _ _ (omega arith))
 
-cast-result : tie.Need-cast-result
-cast-result c = search needs
+shared-slice-read-second : tie.Need-shared-slice-read-second
+shared-slice-read-second c = search needs
 
-enum-told : tie.Need-enum-told
-enum-told c = search needs
+sub-result : tie.Need-sub-result
+sub-result c = search needs
 
 returns-3 : tie.Need-returns-3
 returns-3 c =
-    let w = c .before .before in
-    let call = w .before .before in
-    let t = call .before .before .before .args .digits .now in
-    let unled = ⊎-elim (λ o. o .2 .left) (λ o. empty t (o .left)) (call .before .if1 .came) in
-    sym (station-is t (Value (w .w .given .0 .0)) unled (sym (call .read-whole .ensures) ∙ w .w .given .1) ∙ rw (le-ltb _ _ (c .if3 .left)))
+    let s = c .before .before .before .before .before in
+    by-bytes (s .args .inner .now) (s .pre) (one-digit _ _ _ _ (omega arith) (omega arith) (c .if3 .taken))
 
 returns-4 : tie.Need-returns-4
 returns-4 c =
-    let call = c .before .before in
-    let t = call .before .before .before .args .digits .now in
-    let unled = ⊎-elim (λ o. o .2 .left) (λ o. empty t (o .left)) (call .before .if1 .came) in
-    sym (station-is t Malformed unled (sym (call .read-whole .ensures) ∙ c .enum-told .given .1))
+    let s = c .before .before .before .before .before .before in
+    let n = c .before .if3 .left in
+    by-bytes
+    (s .args .inner .now)
+    (s .pre)
+    (second-bad _ _ _ _ (omega arith) (omega arith) n (simp (lt-leb _ _ (c .if4 .taken))))
+
+returns-5 : tie.Need-returns-5
+returns-5 c =
+    let s = c .before .before .before .before .before .before .before in
+    let n = c .before .before .if3 .left in
+    let low = le-leb _ _ (c .before .if4 .left) in
+    let high = lt-leb _ _ (c .if5 .taken) in
+    by-bytes
+    (s .args .inner .now)
+    (s .pre)
+    (second-bad _ _ _ _ (omega arith) (omega arith) n (simp (low, high)))
+
+shared-slice-read-if6 : tie.Need-shared-slice-read-if6
+shared-slice-read-if6 c = search needs
+
+returns-6 : tie.Need-returns-6
+returns-6 c =
+    let s = c .before .before .before .before .before .before .before .before .before in
+    let n = c .before .before .before .before .if3 .left in
+    by-bytes (s .args .inner .now) (s .pre) (third-bad _ _ _ _ (omega arith) (omega arith) n (c .if6 .taken))
+
+sub-result-2 : tie.Need-sub-result-2
+sub-result-2 c = search needs
+
+mul-result : tie.Need-mul-result
+mul-result c = search needs
+
+add-result : tie.Need-add-result
+add-result c = search needs
+
+returns-7 : tie.Need-returns-7
+returns-7 c =
+    let s = c .before .before .before .before .before .before .before .before .before in
+    by-bytes
+    (s .args .inner .now)
+    (s .pre)
+    (two-digits _ _ _ _ (omega arith) (omega arith) (omega arith) (omega arith) (c .if6 .left))
 
 pub read-station-spec : {M : Type 1} → statement M
 read-station-spec =
     tie.close
     (tie.spec
-    shared-slice-read-if2
+    shared-slice-read-first
     returns
-    read-whole-requires
-    enum-known-w
     returns-2
-    cast-result
-    enum-told
+    shared-slice-read-second
+    sub-result
     returns-3
-    returns-4)
+    returns-4
+    returns-5
+    shared-slice-read-if6
+    returns-6
+    sub-result-2
+    mul-result
+    add-result
+    returns-7)

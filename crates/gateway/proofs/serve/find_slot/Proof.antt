@@ -1,83 +1,88 @@
--- The invariant: the slots that are left to scan give what all four do.
-use Prim.Native.Nat.{ℕ, suc, _+_, _-_, _<_, _≤_}
-use native.Mathlib.Numerals.{add-one}
-use mathlib.Core.Path.{_≡_, _∙_}
+-- After each test `slot` tells what is found in the slots from the tested one on; 4 is nowhere.
+use Prim.Native.Nat.{ℕ, suc, _<_}
+use mathlib.Core.Path.{_≡_, refl}
+use mathlib.Core.Bool.{cond}
 use mathlib.Core.List.{List}
+use mathlib.Core.Logic.{_⊎_, ⊎-elim}
 use native.Mathlib.Omega.{arith}
-use borrow.Author.Tests.{eq-eqb, ne-eqb}
+use borrow.Author.Needs.{needs}
+use borrow.Author.Tests.{lt-ltb, le-ltb, eq-eqb, ne-eqb}
+use lib.Dec.{ltb}
 use lib.ListN.{getD}
-use Rattle.model.specs.Box.{nowhere, at, scan, slotOf}
+use Rattle.model.specs.Box.{Slot, nowhere, at, scan, slotOf}
 use Rattle.gateway.proofs.serve.find_slot.Statement.{statement}
 use Rattle.gateway.proofs.serve.find_slot.Tie as tie
+use Rattle.gateway.proofs.serve.find_slot.Reads as reads
+use Rattle.gateway.proofs.serve.find_slot.Lts as lts
 
-module _ (st : List ℕ) (s i : ℕ) (l : i < 4) where
-  left : 4 - i ≡ suc (4 - (i + 1))
-  left = omega arith
+abbrev told : ℕ → Slot
+told slot = cond (ltb slot 4) (at slot) nowhere
 
-  hit : getD st i 0 ≡ s → scan st s (4 - i) i ≡ at i
+-- the test of slot i, where m slots follow it
+module _ (st : List ℕ) (s m i : ℕ) {slot later : ℕ} {Taken Left : Type 0} where
+  tested :
+      i < 4 →
+      scan st s m (suc i) ≡ told later →
+      (Taken × (slot ≡ i)) ⊎ (Left × (slot ≡ later)) →
+      (Taken → getD st i 0 ≡ s) →
+      (Left → getD st i 0 ≡ s → ⊥) →
+      scan st s (suc m) i ≡ told slot
   unfolding scan
-  hit e = rw (left, eq-eqb (getD st i 0) s e)
+  tested l q came taken left =
+      ⊎-elim
+      (λ w. rw (eq-eqb (getD st i 0) s (taken (w .0)), w .1, lt-ltb i 4 l))
+      (λ w. rw (ne-eqb (getD st i 0) s (left (w .0)), w .1) q)
+      came
 
-  miss : (getD st i 0 ≡ s → ⊥) → scan st s (4 - i) i ≡ scan st s (4 - (i + 1)) (i + 1)
-  unfolding scan
-  miss n = rw (left, ne-eqb (getD st i 0) s n, add-one i)
+-- past the four tests
+module _ (c : lts.Joined5 reads.Pre reads.Post) where
+  found :
+      let start = c .before .before .before .before .before .before .before .before .before in
+      slotOf (start .args .stations .now) (start .args .station) ≡ told (c .if5 .slot)
+  unfolding slotOf scan
+  found =
+      let if4 = c .before .before in
+      let if3 = if4 .before .before in
+      let if2 = if3 .before .before in
+      let if1 = if2 .before .before in
+      let st = if1 .before .args .stations .now in
+      let s = if1 .before .args .station in
+      let from3 = tested st s 0 3 (omega arith) refl (if2 .if2 .came) (λ w. w .taken) (λ w. w .left) in
+      let from2 = tested st s 1 2 (omega arith) from3 (if3 .if3 .came) (λ w. w .taken) (λ w. w .left) in
+      let from1 = tested st s 2 1 (omega arith) from2 (if4 .if4 .came) (λ w. w .taken) (λ w. w .left) in
+      let from0 = tested st s 3 0 (omega arith) from1 (c .if5 .came) (λ w. w .taken) (λ w. w .left) in
+      rw (ne-eqb s 0 (if1 .if1 .left)) from0
 
-done : (st : List ℕ) (s i : ℕ) → 4 ≤ i → scan st s (4 - i) i ≡ nowhere
-unfolding scan
-done st s i l = let z : 4 - i ≡ 0 = omega arith in rw z
-
-abbrev Inv-loop : tie.InvT-loop
-Inv-loop stations station i₀ i = (i ≤ 4) × (slotOf stations station ≡ scan stations station (4 - i) i)
-
-abbrev μ-loop : tie.MeasureT-loop
-μ-loop stations station i₀ i = 4 - i
-
-returns : tie.Need-returns Inv-loop μ-loop
+returns : tie.Need-returns
 unfolding slotOf
 returns c = rw (eq-eqb _ _ (c .if1 .taken))
 
-loop-holds : tie.Need-loop-holds Inv-loop μ-loop
-unfolding slotOf
-loop-holds c = (omega arith, rw (ne-eqb _ _ (c .if1 .left)))
+element-copy-out-if2 : tie.Need-element-copy-out-if2
+element-copy-out-if2 c = search needs
 
-element-copy-out-if2 : tie.Need-element-copy-out-if2 Inv-loop μ-loop
-element-copy-out-if2 c = omega arith
+element-copy-out-if3 : tie.Need-element-copy-out-if3
+element-copy-out-if3 c = search needs
 
-returns-2 : tie.Need-returns-2 Inv-loop μ-loop
-returns-2 c =
-    let l = c .before .before .before in
-    let a = l .before .before .args in
-    rw (l .loop .inv .1, hit (a .stations .now) (a .station) (l .loop .i) (c .before .before .loop-test .taken) (c .if2 .taken))
+element-copy-out-if4 : tie.Need-element-copy-out-if4
+element-copy-out-if4 c = search needs
 
-add-i : tie.Need-add-i Inv-loop μ-loop
-add-i c = omega arith
+element-copy-out-if5 : tie.Need-element-copy-out-if5
+element-copy-out-if5 c = search needs
 
-loop-less : tie.Need-loop-less Inv-loop μ-loop
-loop-less c = omega arith
+returns-2 : tie.Need-returns-2
+returns-2 c = rw (found (c .before), lt-ltb (c .before .if5 .slot) 4 (omega arith))
 
-loop-again : tie.Need-loop-again Inv-loop μ-loop
-loop-again c =
-    let l = c .before .before .before in
-    let a = l .before .before .args in
-    (omega arith, l .loop .inv .1 ∙ miss (a .stations .now) (a .station) (l .loop .i) (c .before .before .loop-test .taken) (c .if2 .left))
-
-returns-3 : tie.Need-returns-3 Inv-loop μ-loop
-returns-3 c =
-    let l = c .before in
-    let a = l .before .before .args in
-    rw (l .loop .inv .1, done (a .stations .now) (a .station) (l .loop .i) (c .loop-test .left))
+returns-3 : tie.Need-returns-3
+returns-3 c = rw (found (c .before), le-ltb (c .before .if5 .slot) 4 (omega arith))
 
 pub find-slot-spec : {M : Type 1} → statement M
 find-slot-spec =
     tie.close
     (tie.spec
-    Inv-loop
-    μ-loop
     returns
-    loop-holds
     element-copy-out-if2
+    element-copy-out-if3
+    element-copy-out-if4
+    element-copy-out-if5
     returns-2
-    add-i
-    loop-less
-    loop-again
     returns-3)
