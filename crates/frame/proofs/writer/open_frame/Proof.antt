@@ -22,22 +22,18 @@ slice-write-area : tie.Need-slice-write-area
 slice-write-area c = omega (arith, opening-length (c .before .args .station))
 
 put-shortest-requires : tie.Need-put-shortest-requires
-put-shortest-requires c κs =
-    let a = c .before .before .args in
-    omega (arith, opening-length (a .station), length-set (a .area .now) 0 2)
+put-shortest-requires c κs = simp length-set (omega (arith, opening-length (c .before .before .args .station)))
 
 put-byte-requires : tie.Need-put-byte-requires
 put-byte-requires c κs =
     let q = c .before .before .before in
-    let a = q .before .before .before .args in
-    omega (arith, opening-length (a .station), length-set (a .area .now) 0 2, q .put-shortest .kept .0, q .put-shortest .ensures .next)
+    omega (arith, opening-length (q .before .before .before .args .station), rw length-set at (q .put-shortest .kept .0), q .put-shortest .ensures .next)
 
 same-length : tie.Need-same-length
 same-length c =
     let r = c .before .before in
     let q = r .before .before .before .before in
-    let xs = q .before .before .before .args .area .now in
-    omega (arith, length-set xs 0 2, q .put-shortest .kept .0, r .put-byte .kept .0)
+    omega (arith, rw length-set at (q .put-shortest .kept .0), r .put-byte .kept .0)
 
 returns : tie.Need-returns
 returns c =
