@@ -278,8 +278,7 @@ module _ (s : List ℕ) (i e : ℕ) (q : e ≡ i + digitCount 4 (drop i s)) wher
     field-point n z =
         let t = end-test s i (digitCount 4 (drop i s)) q r in
         let k : i + (digitCount 4 (drop i s) + 1) ≡ e + 1 = omega arith in
-        let d : drop (digitCount 4 (drop i s) + 1) (drop i s) ≡ drop (e + 1) s = drop-drop (digitCount 4 (drop i s) + 1) i s ∙ rw k in
-        (
+        let d : drop (digitCount 4 (drop i s) + 1) (drop i s) ≡ drop (e + 1) s = drop-drop (digitCount 4 (drop i s) + 1) i s ∙ rw k in (
           magnitude-point (drop i s) within t (some-digits i _ q n) (byte ∙ z) ∙ rw d,
           omega (arith, rw d at (past (drop i s) within t)),
         )

@@ -1,7 +1,7 @@
 -- Hundredths as text (document 01, "Numbers as text"): the value is the whole number of hundredths.
 use Prim.Native.Nat.{ℕ, suc, _+_, _*_, _/_, _%_, _<_}
 use mathlib.Core.Bool.{Bool, true, false, cond}
-use mathlib.Core.List.{List, _∷_, _++_}
+use mathlib.Core.List.{List, [], _∷_, _++_}
 use lib.ListN.{length, getD, take, drop}
 use lib.IntN.{ℤ, pos, negsuc, negℤ}
 use lib.Dec.{ltb, eqb}
@@ -54,6 +54,11 @@ readHundredths s = cond (eqb (getD s 0 0) 45) (signed true (magnitude (drop 1 s)
 -- the shortest whole part, of at most 4 digits, and two decimals
 unfoldable pub magnitudeText : ℕ → List ℕ
 magnitudeText m = shortest (m / 100 % 10000) ++ (46 ∷ twoDigits (m % 100))
+
+-- "-" with a minus, nothing without one
+unfoldable pub sign : Bool → List ℕ
+sign true = 45 ∷ []
+sign false = []
 
 -- "-" only below zero
 unfoldable pub hundredthsText : ℤ → List ℕ

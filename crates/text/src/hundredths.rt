@@ -11,6 +11,8 @@ use crate::whole::read_digits;
 use crate::whole::read_whole;
 ghost use mathlib.Core.Path.{_≡_};
 ghost use Prim.Native.Nat.{ℕ, _≤_, _<_, _+_};
+ghost use mathlib.Core.Bool.{not};
+ghost use lib.Dec.{eqb};
 ghost use lib.ListN.{length};
 ghost use lib.IntN.{ℤ, natAbs};
 ghost use Rattle.text.specs.Put.{Put};
@@ -18,7 +20,7 @@ ghost use Rattle.text.specs.Scan.{fieldAt, endAt};
 ghost use Rattle.text.specs.declared.whole.Whole.the-variants as whole;
 ghost use Rattle.text.specs.declared.hundredths.Magnitude.the-variants.{Size};
 ghost use Rattle.text.specs.declared.hundredths.Hundredths.the-variants.{Value};
-ghost use Rattle.text.specs.Hundredths.{Small, decimals, magnitude, signed, readHundredths, magnitudeText, hundredthsText};
+ghost use Rattle.text.specs.Hundredths.{Small, decimals, magnitude, signed, readHundredths, magnitudeText, sign, hundredthsText};
 
 // A number of hundredths without its sign.
 pub enum Magnitude {
@@ -134,26 +136,31 @@ fn with_sign(m: Magnitude, minus: bool) -> Hundredths
     }
 }
 
+// Where the digits of the field at `from` start: behind "-", where one stands there.
+fn after_sign(s: &[u8], from: usize) -> usize
+    requires { ⌜ from ≤ length (now s) ⌝ }
+    ensures { λ r. ⌜ readHundredths (fieldAt (now (s .entry)) from) ≡ signed (not (eqb r from)) (magnitude (fieldAt (now (s .entry)) r)) ⌝ }
+    ensures { λ r. ⌜ (endAt (now (s .entry)) r ≡ endAt (now (s .entry)) from) × (r ≤ length (now (s .entry))) ⌝ }
+{
+    if from < s.len() {
+        if s[from] == b'-' {
+            return from + 1;
+        }
+    }
+    from
+}
+
 // Reads the field at `from` as a number of hundredths, byte by byte up to its end; any other text is malformed.
 pub fn read_hundredths(s: &[u8], from: usize) -> HundredthsField
     requires { ⌜ from ≤ length (now s) ⌝ }
     ensures { λ r. ⌜ r .hundredths ≡ readHundredths (fieldAt (now (s .entry)) from) ⌝ }
     ensures { λ r. ⌜ ((v : ℤ) → r .hundredths ≡ Value v → r .end ≡ endAt (now (s .entry)) from) ⌝ }
 {
-    if from < s.len() {
-        if s[from] == b'-' {
-            let read = read_magnitude(s, from + 1);
-            let size = read.magnitude;
-            return HundredthsField {
-                hundredths: with_sign(size, true),
-                end: read.end,
-            };
-        }
-    }
-    let read = read_magnitude(s, from);
+    let start = after_sign(s, from);
+    let read = read_magnitude(s, start);
     let size = read.magnitude;
     HundredthsField {
-        hundredths: with_sign(size, false),
+        hundredths: with_sign(size, start != from),
         end: read.end,
     }
 }
@@ -176,15 +183,23 @@ fn put_magnitude(area: &mut [u8], to: Cursor, m: u32) -> Cursor
     put_two_digits(area, decimals, cents)
 }
 
+// Writes "-", where there is a minus.
+fn put_sign(area: &mut [u8], to: Cursor, minus: bool) -> Cursor
+    requires { ⌜ to .at + length (sign minus) ≤ length (now area) ⌝ }
+    ensures { λ r. ⌜ Put (now (area .entry)) to (sign minus) r (now (area .exit)) ⌝ }
+{
+    if minus {
+        return put_byte(area, to, b'-');
+    }
+    to
+}
+
 // Writes v hundredths; of a whole part with more than 4 digits, the last 4.
 pub fn put_hundredths(area: &mut [u8], to: Cursor, v: i32) -> Cursor
     requires { ⌜ to .at + length (hundredthsText v) ≤ length (now area) ⌝ }
     ensures { λ r. ⌜ Put (now (area .entry)) to (hundredthsText v) r (now (area .exit)) ⌝ }
 {
     let m = unsigned_abs(v);
-    if v < 0 {
-        let digits = put_byte(area, to, b'-');
-        return put_magnitude(area, digits, m);
-    }
-    put_magnitude(area, to, m)
+    let digits = put_sign(area, to, v < 0);
+    put_magnitude(area, digits, m)
 }

@@ -52,8 +52,7 @@ returns-4 c =
     let r = w .before .before in
     let s = r .before .before in
     let end = r .read-whole .ensures .1 .0 _ (w .whole .given .1) in
-    let l = part-length 32 refl (drop (s .args .from) (s .args .s .now)) in
-    (
+    let l = part-length 32 refl (drop (s .args .from) (s .args .s .now)) in (
       sym (decimals-more (fieldAt (s .args .s .now) (s .args .from)) (sym (r .read-whole .ensures .0) ∙ w .whole .given .1) (λ z. c .before .if1 .left (omega (arith, z, l, end))) (λ z. c .if2 .left (omega (arith, z, l, end)))),
       λ v e. no-whole e,
     )

@@ -1,31 +1,18 @@
--- `w` is where the sign was put to the magnitude, `r` where the magnitude was read, and `s` where the function starts.
-use Prim.Native.Nat.{ℕ, _+_}
+-- `r` is where the magnitude was read, and `a` where the digits start.
+use Prim.Native.Nat.{ℕ}
 use mathlib.Core.Path.{_≡_, refl, sym, ap, subst, _∙_}
-use mathlib.Core.Bool.{Bool, true, false}
-use mathlib.Core.List.{List, _∷_}
-use mathlib.Core.Logic.{⊎-elim}
+use mathlib.Core.Bool.{Bool, true, false, not}
 use native.Mathlib.Omega.{arith}
 use borrow.Author.Needs.{needs}
-use borrow.Author.Tests.{ne-eqb}
+use lib.Dec.{eqb}
 use lib.IntN.{ℤ}
-use lib.ListN.{getD}
-use Rattle.text.specs.Scan.{fieldAt}
-use Rattle.text.specs.Hundredths.{Small, magnitude, signed, readHundredths}
+use Rattle.text.specs.Hundredths.{Small, signed}
 use Rattle.text.specs.declared.hundredths.Magnitude.{Magnitude}
 use Rattle.text.specs.declared.hundredths.Magnitude.the-variants.{Size, Unreadable}
 use Rattle.text.specs.declared.hundredths.Hundredths.the-variants.{Value, Malformed}
 use Rattle.text.proofs.Decimals.{magnitude-small}
-use Rattle.text.proofs.Fields.{field-cons, field-front, field-past}
 use Rattle.text.proofs.hundredths.read_hundredths.Statement.{statement}
 use Rattle.text.proofs.hundredths.read_hundredths.Tie as tie
-
-minus : (f : List ℕ) → readHundredths (45 ∷ f) ≡ signed true (magnitude f)
-unfolding readHundredths
-minus f = refl
-
-no-minus : (f : List ℕ) → (getD f 0 0 ≡ 45 → ⊥) → readHundredths f ≡ signed false (magnitude f)
-unfolding readHundredths
-no-minus f e = rw (ne-eqb _ _ e)
 
 -- a field that can be read was read to its end
 no-hundredths : {A : Type 0} {v : ℤ} → Malformed ≡ Value v → A
@@ -43,36 +30,12 @@ with-sign-requires c κs = subst Small (sym (c .read-magnitude .ensures .0)) (ma
 returns : tie.Need-returns
 returns c =
     let r = c .before in
-    let s = r .before .before .before .before .before in
-    let m = r .before .if2 .taken in
-    let f = field-cons (s .args .s .now) (s .args .from) (r .before .before .before .if1 .taken) (λ z. omega (arith, m, z)) in
-    (
-      c .with-sign .ensures ∙ ap (signed true) (r .read-magnitude .ensures .0) ∙ sym (rw (f .0, m) (minus (fieldAt (s .args .s .now) (s .args .from + 1)))),
-      λ v e. to-end true (r .read-magnitude .result .magnitude) (sym (c .with-sign .ensures) ∙ e) (λ n q. r .read-magnitude .ensures .1 n q ∙ f .1),
-    )
-
-with-sign-requires-2 : tie.Need-with-sign-requires-2
-with-sign-requires-2 c κs = subst Small (sym (c .read-magnitude2 .ensures .0)) (magnitude-small _)
-
-returns-2 : tie.Need-returns-2
-returns-2 c =
-    let r = c .before in
-    let s = r .before .before .before in
-    let n = ⊎-elim (λ o. field-front (s .args .s .now) (s .args .from) 45 (omega arith) (o .0 .taken) (o .2 .left)) (λ o. field-past (s .args .s .now) (s .args .from) 45 (omega arith) (o .left)) (r .before .if1 .came) in
-    (
-      c .with-sign2 .ensures ∙ ap (signed false) (r .read-magnitude2 .ensures .0) ∙ sym (no-minus (fieldAt (s .args .s .now) (s .args .from)) n),
-      λ v e. to-end false (r .read-magnitude2 .result .magnitude) (sym (c .with-sign2 .ensures) ∙ e) (r .read-magnitude2 .ensures .1),
+    let a = r .before in
+    let minus = not (eqb (a .after-sign .result) (a .before .before .args .from)) in (
+      c .with-sign .ensures ∙ ap (signed minus) (r .read-magnitude .ensures .0) ∙ sym (a .after-sign .ensures .0),
+      λ v e. to-end minus (r .read-magnitude .result .magnitude) (sym (c .with-sign .ensures) ∙ e) (λ m q. r .read-magnitude .ensures .1 m q ∙ a .after-sign .ensures .1 .0),
     )
 
 pub read-hundredths-spec : {M : Type 1} → statement M
 read-hundredths-spec =
-    tie.close
-    (tie.spec
-    (λ c. search needs)
-    (λ c. search needs)
-    (λ c κs. search needs)
-    with-sign-requires
-    returns
-    (λ c κs. search needs)
-    with-sign-requires-2
-    returns-2)
+    tie.close (tie.spec (λ c κs. search needs) (λ c κs. search needs) with-sign-requires returns)

@@ -36,8 +36,7 @@ returns-3 : tie.Need-returns-3
 returns-3 c =
     let e = c .before .before .before in
     let d = e .before .before .before in
-    let s = d .before .before in
-    (
+    let s = d .before .before in (
       sym (field-other (s .args .s .now) (s .args .from) (d .read-digits .result .end) (d .read-digits .ensures .0 .0) (d .read-digits .ensures .1 .0) (sym (c .before .before .if2 .left) ∙ e .is-end .ensures) (c .if3 .taken)),
       λ m e. no-magnitude e,
     )
@@ -55,8 +54,7 @@ returns-4 c =
     let e = r .before .before .before .before in
     let d = e .before .before .before in
     let s = d .before .before in
-    let p = field-point (s .args .s .now) (s .args .from) (d .read-digits .result .end) (d .read-digits .ensures .0 .0) (d .read-digits .ensures .1 .0) (sym (r .before .before .before .if2 .left) ∙ e .is-end .ensures) (e .before .if1 .left) (r .before .if3 .left) in
-    (
+    let p = field-point (s .args .s .now) (s .args .from) (d .read-digits .result .end) (d .read-digits .ensures .0 .0) (d .read-digits .ensures .1 .0) (sym (r .before .before .before .if2 .left) ∙ e .is-end .ensures) (e .before .if1 .left) (r .before .if3 .left) in (
       ap (λ (v : ℕ). joined (Value v) (Value (c .before .whole .given .0 .0))) (d .read-digits .ensures .0 .1) ∙ ap (joined (Value _)) (sym (c .before .whole .given .1) ∙ r .read-decimals .ensures .0) ∙ sym (p .0),
       λ m _. r .read-decimals .ensures .1 _ (c .before .whole .given .1) ∙ p .1,
     )

@@ -23,8 +23,7 @@ returns-2 c =
     let s = d .before .before in
     let t = drop (s .args .from) (s .args .s .now) in
     let n = d .read-digits .ensures .0 .0 in
-    let e = end-test (s .args .s .now) (s .args .from) (digitCount 4 t) n (c .before .is-end .ensures) ∙ c .if2 .taken in
-    (
+    let e = end-test (s .args .s .now) (s .args .from) (digitCount 4 t) n (c .before .is-end .ensures) ∙ c .if2 .taken in (
       ap Value (d .read-digits .ensures .0 .1) ∙ sym (whole-read 32 refl t (some-digits (s .args .from) _ n (c .before .before .if1 .left)) e),
       (λ v _. n ∙ ap (λ m. s .args .from + m) (sym (digits-end 32 refl t e)), d .read-digits .ensures .1 .0),
     )
