@@ -21,7 +21,8 @@ fn put_label(kind: &[u8], text: &[u8]) {
 
 pub fn read_as_hundredths(text: &[u8]) {
     put_label(b"hundredths ", text);
-    let h = read_hundredths(text);
+    let read = read_hundredths(text, 0);
+    let h = read.hundredths;
     match h {
         Hundredths::Value(v) => put_signed(v),
         Hundredths::Malformed => put(b"malformed"),
@@ -31,7 +32,8 @@ pub fn read_as_hundredths(text: &[u8]) {
 
 pub fn read_as_whole(text: &[u8]) {
     put_label(b"whole ", text);
-    let w = read_whole(text);
+    let read = read_whole(text, 0);
+    let w = read.whole;
     match w {
         Whole::Value(v) => put_whole(v as u64),
         Whole::Malformed => put(b"malformed"),

@@ -24,7 +24,8 @@ pub enum Step {
 
 // Word k of a line as a number.
 fn number(line: &[u8], k: usize) -> u16 {
-    let w = read_whole(part(line, b' ', k));
+    let read = read_whole(part(line, b' ', k), 0);
+    let w = read.whole;
     match w {
         Whole::Value(v) => v,
         Whole::Malformed => 0,
