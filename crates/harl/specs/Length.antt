@@ -1,5 +1,5 @@
--- How long what is written is: less than the 64 bytes that every writer asks for. Both lengths are reached, by the row
--- -9999.99 -9999.99 -9999.99 -9999.99 under 99 at station 99 (proved in proofs/Lengths.antt).
+-- How long what is written is: less than the 64 bytes that every writer asks for (proved in proofs/Lengths.antt). Both
+-- lengths are reached, by the row -9999.99 -9999.99 -9999.99 -9999.99 under 99 at station 99 (`Worked`, crates/model).
 use Prim.Native.Nat.{ℕ, _≤_}
 use lib.ListN.{length}
 use Rattle.commands.specs.declared.request.Request.{Request}

@@ -1,0 +1,122 @@
+//! The entries of libllamput.a, as include/llamput.h declares them.
+
+use crate::reference::{Sent, Tables};
+
+#[repr(C)]
+struct LlamputSent {
+    number: u8,
+    length: usize,
+}
+
+extern "C" {
+    fn llamput_setup(
+        timers: *mut [u16; 16],
+        registers: *mut [u16; 64],
+        x: *mut [i32; 100],
+        y: *mut [i32; 100],
+        z: *mut [i32; 100],
+        w: *mut [i32; 100],
+        inputs: *mut [u8; 32],
+        outputs: *mut [u8; 32],
+        memory: *mut [u8; 16],
+        stations: *mut u8,
+        want: *const u16,
+    ) -> u8;
+
+    fn llamput_serve(
+        timers: *mut [u16; 16],
+        registers: *mut [u16; 64],
+        x: *mut [i32; 100],
+        y: *mut [i32; 100],
+        z: *mut [i32; 100],
+        w: *mut [i32; 100],
+        inputs: *mut [u8; 32],
+        outputs: *mut [u8; 32],
+        memory: *mut [u8; 16],
+        stations: *const u8,
+        slice: *const u8,
+        slice_length: usize,
+        reply: *mut u8,
+        reply_length: usize,
+    ) -> LlamputSent;
+
+    fn llamput_input(
+        timers: *mut [u16; 16],
+        registers: *mut [u16; 64],
+        x: *mut [i32; 100],
+        y: *mut [i32; 100],
+        z: *mut [i32; 100],
+        w: *mut [i32; 100],
+        inputs: *mut [u8; 32],
+        outputs: *mut [u8; 32],
+        memory: *mut [u8; 16],
+        stations: *const u8,
+        slot: usize,
+        port: u16,
+        byte: u8,
+    ) -> u8;
+}
+
+// In each call the areas are fields of one exclusively borrowed struct or borrowed apart from it, so none overlap,
+// and each has the length that the header declares.
+
+pub fn setup(tables: &mut Tables, want: &[u16; 4]) -> u8 {
+    unsafe {
+        llamput_setup(
+            tables.timers.as_mut_ptr(),
+            tables.registers.as_mut_ptr(),
+            tables.x.as_mut_ptr(),
+            tables.y.as_mut_ptr(),
+            tables.z.as_mut_ptr(),
+            tables.w.as_mut_ptr(),
+            tables.inputs.as_mut_ptr(),
+            tables.outputs.as_mut_ptr(),
+            tables.memory.as_mut_ptr(),
+            tables.stations.as_mut_ptr(),
+            want.as_ptr(),
+        )
+    }
+}
+
+#[inline]
+pub fn serve(tables: &mut Tables, slice: &[u8], reply: &mut [u8]) -> Sent {
+    let LlamputSent { number, length } = unsafe {
+        llamput_serve(
+            tables.timers.as_mut_ptr(),
+            tables.registers.as_mut_ptr(),
+            tables.x.as_mut_ptr(),
+            tables.y.as_mut_ptr(),
+            tables.z.as_mut_ptr(),
+            tables.w.as_mut_ptr(),
+            tables.inputs.as_mut_ptr(),
+            tables.outputs.as_mut_ptr(),
+            tables.memory.as_mut_ptr(),
+            tables.stations.as_ptr(),
+            slice.as_ptr(),
+            slice.len(),
+            reply.as_mut_ptr(),
+            reply.len(),
+        )
+    };
+    Sent { number, length }
+}
+
+pub fn input(tables: &mut Tables, slot: usize, port: u16, byte: u8) -> u8 {
+    unsafe {
+        llamput_input(
+            tables.timers.as_mut_ptr(),
+            tables.registers.as_mut_ptr(),
+            tables.x.as_mut_ptr(),
+            tables.y.as_mut_ptr(),
+            tables.z.as_mut_ptr(),
+            tables.w.as_mut_ptr(),
+            tables.inputs.as_mut_ptr(),
+            tables.outputs.as_mut_ptr(),
+            tables.memory.as_mut_ptr(),
+            tables.stations.as_ptr(),
+            slot,
+            port,
+            byte,
+        )
+    }
+}
