@@ -18,7 +18,6 @@ use Rattle.frame.proofs.Laws.{fields-cons, fields-one}
 use Rattle.frame.proofs.Reading.{digit-clean}
 use Rattle.commands.specs.declared.command.Command.{Command}
 use Rattle.commands.specs.declared.command.Command.the-variants.{Lnt, Snt, Lnd, Snd, Lnl, Snl, Lnib, Lnob, Snob, Lnid, Lnod, Snod, Lnbb, Snbb, Lnbd, Snbd}
-use Rattle.commands.specs.declared.command.Named.the-variants.{Is}
 use Rattle.commands.specs.declared.command.Kind.{Kind}
 use Rattle.commands.specs.declared.command.Rule.{Rule}
 use Rattle.commands.specs.declared.request.Row.{Row}
@@ -30,7 +29,7 @@ use Rattle.commands.specs.declared.request.Parts.{Parts}
 use Rattle.data.specs.declared.data.Values.the-variants as values
 use Rattle.harl.specs.declared.body.Shape.the-variants as shape
 use Rattle.harl.specs.declared.body.Judged.the-variants.{Accepted}
-use Rattle.commands.specs.Command.{nameOf, commandOf, ruleOf}
+use Rattle.commands.specs.Command.{nameOf, ruleOf}
 use Rattle.commands.proofs.Names.{name, name-solid}
 use Rattle.commands.specs.Request.{one, partsOf, requestOf}
 use Rattle.data.specs.Ranges.{countOf, judge, allInRange}

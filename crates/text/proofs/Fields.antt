@@ -12,7 +12,6 @@ use lib.Seq.{length-take-le, drop-drop, getD-drop}
 use Rattle.text.specs.Scan.{until, before, fieldAt, endAt, emptyOr}
 use Rattle.text.specs.Whole.{isDigit, digitsOnto, readWhole, digitCount, digitValue}
 use Rattle.text.specs.Hundredths.{magnitude, joined, decimals}
-use Rattle.text.specs.declared.whole.Whole.{Whole}
 use Rattle.text.specs.declared.whole.Whole.the-variants.{Value, Malformed}
 use Rattle.text.specs.declared.hundredths.Magnitude.the-variants.{Size, Unreadable}
 use Rattle.text.proofs.Laws.{here, over}

@@ -1,14 +1,14 @@
 -- `s` is where the function starts.
-use Prim.Native.Nat.{ℕ, _+_, _≤_, _<_}
-use mathlib.Core.Path.{_≡_, refl, sym, _∙_}
-use mathlib.Core.Bool.{true, false, not}
-use mathlib.Core.List.{List, _∷_}
+use Prim.Native.Nat.{ℕ, _+_, _<_}
+use mathlib.Core.Path.{_≡_, refl}
+use mathlib.Core.Bool.{not}
+use mathlib.Core.List.{List}
 use native.Mathlib.Omega.{arith}
 use borrow.Author.Needs.{needs}
 use borrow.Author.Tests.{eq-eqb, ne-eqb}
 use lib.Dec.{eqb}
 use lib.ListN.{length, getD}
-use Rattle.text.specs.Scan.{fieldAt, endAt}
+use Rattle.text.specs.Scan.{fieldAt}
 use Rattle.text.specs.Hundredths.{magnitude, signed, readHundredths}
 use Rattle.text.proofs.Fields.{field-cons, field-front, field-past}
 use Rattle.text.proofs.hundredths.after_sign.Statement.{statement}

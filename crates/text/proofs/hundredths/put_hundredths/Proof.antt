@@ -9,8 +9,6 @@ use lib.IntN.{ℤ, pos, natAbs}
 use lib.ListN.{length, length-append}
 use lib.Signed.{ltZ}
 use mir.Facts.{toZ-ofZ}
-use mir.Syntax.{w32}
-use mir.Val.{toZ, ofZ}
 use Rattle.text.specs.Hundredths.{magnitudeText, sign, hundredthsText}
 use Rattle.text.proofs.Laws.{put-then}
 use Rattle.text.proofs.Decimals.{text-neg, text-pos}
