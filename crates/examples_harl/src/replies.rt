@@ -2,12 +2,12 @@
 use crate::cases::case_of;
 use crate::words::put_asked;
 use crate::words::put_outcome;
+use bodies::reply::Data;
+use bodies::reply::Outcome;
 use commands::request::Row;
 use harl::message::Answered;
 use harl::message::read_reply;
 use harl::message::write_reply;
-use harl::reply::Data;
-use harl::reply::Outcome;
 use print::front;
 use print::put;
 use print::put_number;

@@ -1,10 +1,10 @@
 // Typed requests, and what replies carry, in words.
+use bodies::reply::Data;
+use bodies::reply::Outcome;
 use commands::request::Load;
 use commands::request::Request;
 use commands::request::Row;
 use commands::request::Store;
-use harl::reply::Data;
-use harl::reply::Outcome;
 use print::part;
 use print::put;
 use print::put_signed;

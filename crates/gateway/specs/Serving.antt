@@ -3,7 +3,7 @@ use Prim.Native.Nat.{ℕ}
 use mathlib.Core.Path.{_≡_}
 use mathlib.Core.List.{List}
 use Rattle.harl.specs.declared.message.Sent.{Sent}
-use Rattle.harl.specs.Body.{readBody}
+use Rattle.bodies.specs.Body.{readBody}
 use Rattle.harl.specs.Message.{Wrote}
 use Rattle.tables.specs.Tables.{Tables}
 use Rattle.gateway.specs.declared.serve.Found.{Found}

@@ -1,20 +1,20 @@
 // Serving: a slice judged, performed on the arm that it addresses, and answered.
+use bodies::body::Judged;
+use bodies::body::read_body;
+use bodies::reply::Outcome;
+use bodies::reply::put_outcome;
+use bodies::reply::put_refusal;
 use frame::reader::read_frame;
 use frame::writer::close_frame;
 use frame::writer::open_frame;
-use harl::body::Judged;
-use harl::body::read_body;
 use harl::message::Sent;
-use harl::reply::Outcome;
-use harl::reply::put_outcome;
-use harl::reply::put_refusal;
 use tables::perform::perform;
 ghost use mathlib.Core.Path.{_≡_};
 ghost use Prim.Native.Nat.{_≤_, _<_};
 ghost use lib.ListN.{length};
 ghost use Rattle.text.specs.Put.{PutAt};
 ghost use Rattle.frame.specs.Frame.{frameOf};
-ghost use Rattle.harl.specs.Reply.{performedText, refusalText};
+ghost use Rattle.bodies.specs.Reply.{performedText, refusalText};
 ghost use Rattle.tables.specs.Tables.{Tables, tables};
 ghost use Rattle.gateway.specs.Entries.{Served, box};
 ghost use Rattle.gateway.specs.Serving.{BodyServed, foundIn};

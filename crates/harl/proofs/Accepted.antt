@@ -16,11 +16,11 @@ use Rattle.commands.specs.declared.request.Row.{Row}
 use Rattle.commands.specs.declared.request.Request.{Request}
 use Rattle.commands.specs.Command.{commandOf, ruleOf}
 use Rattle.commands.specs.Request.{one, builds}
-use Rattle.harl.specs.declared.body.Shape.{Shape}
-use Rattle.harl.specs.declared.body.Shape.the-variants as shape
-use Rattle.harl.specs.declared.body.Judged.the-variants.{Accepted, Refused}
+use Rattle.bodies.specs.declared.body.Shape.{Shape}
+use Rattle.bodies.specs.declared.body.Shape.the-variants as shape
+use Rattle.bodies.specs.declared.body.Judged.the-variants.{Accepted, Refused}
 use Rattle.data.specs.Ranges.{inRange, judge}
-use Rattle.harl.specs.Body.{readShape, requestOrRefusal, shaped, afterName, ofFields, readBody}
+use Rattle.bodies.specs.Body.{readShape, requestOrRefusal, shaped, afterName, ofFields, readBody}
 use Rattle.harl.specs.Message.{judgeRequest}
 use Rattle.data.proofs.Bounds.{all-x, zero-in, passed, judged}
 use Rattle.frame.specs.Fields.{fields}

@@ -1,19 +1,22 @@
--- Checks that pass, what data that answer a command are, and byte strings that compare as the same.
+-- Checks that pass, what data that answer a command are, and what a writer answers.
 use Prim.Native.Nat.{ℕ, zero, suc, _≤_}
 use mathlib.Core.Path.{_≡_, refl, sym, ap, _∙_}
 use mathlib.Core.Bool.{Bool, true, false, cond, _&&_, _||_}
+use mathlib.Core.List.{List, []}
 use native.Mathlib.Omega.{arith}
 use borrow.Author.Tests.{eqb-true}
 use lib.Dec.{eqb}
-use Rattle.commands.specs.Command.{same}
+use lib.ListN.{length}
+use Rattle.text.specs.Put.{PutAt}
 use Rattle.commands.specs.declared.command.Kind.{Kind}
 use Rattle.commands.specs.declared.command.Kind.the-variants.{Timer, Register, Row, Signal, Port}
 use Rattle.commands.specs.declared.command.Rule.{Rule}
-use Rattle.harl.specs.declared.reply.Content.{Content}
-use Rattle.harl.specs.declared.reply.Data.{Data}
-use Rattle.harl.specs.declared.reply.Outcome.the-variants as outcome
+use Rattle.bodies.specs.declared.reply.Content.{Content}
+use Rattle.bodies.specs.declared.reply.Data.{Data}
+use Rattle.bodies.specs.declared.reply.Outcome.the-variants as outcome
 use Rattle.data.specs.Ranges.{allInRange}
-use Rattle.harl.specs.Reply.{contentOf, codeOf, dataFit, judgeOutcome}
+use Rattle.bodies.specs.Reply.{contentOf, codeOf, dataFit, judgeOutcome}
+use Rattle.harl.specs.Message.{Wrote}
 
 -- ---- refusal numbers, which are 0 where a check passes
 
@@ -61,3 +64,11 @@ fitting rule d = go (rule .store) (eqb (codeOf (contentOf d .kind)) (codeOf (rul
     go false false u p q r e = absurd (omega arith)
     go false true false p q r e = absurd (omega arith)
     go false true true p q r e = record { loads = p; kind = kind-is _ _ (eqb-true _ _ q); range = r }
+
+-- ---- what a writer answers
+
+pub wrote-none : {n : ℕ} {xs : List ℕ} → Wrote (record { number = n; bytes = [] }) xs (record { number = n; length = 0 }) xs
+wrote-none = record { number = refl; length-is = refl; fits = omega arith; area = refl }
+
+pub wrote-all : {n r : ℕ} {bytes xs ys : List ℕ} → PutAt xs 0 bytes r ys → length bytes ≤ length xs → Wrote (record { number = n; bytes = bytes }) xs (record { number = n; length = r }) ys
+wrote-all p fits = record { number = refl; length-is = omega (arith, p .next); fits = fits; area = p .area }

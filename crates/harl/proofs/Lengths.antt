@@ -14,14 +14,14 @@ use Rattle.frame.proofs.Writing.{frame-length}
 use Rattle.commands.specs.declared.request.Request.{Request}
 use Rattle.commands.specs.Command.{nameOf, ruleOf}
 use Rattle.commands.specs.Request.{partsOf}
-use Rattle.harl.specs.Body.{bodyText}
-use Rattle.harl.specs.Reply.{judgeOutcome, outcomeText}
+use Rattle.bodies.specs.Body.{bodyText}
+use Rattle.bodies.specs.Reply.{judgeOutcome, outcomeText}
 use Rattle.harl.specs.Message.{ruleFor, judgeAsked, writeRequest, judgeReply, writeReply}
 use Rattle.harl.specs.Length.{RequestsShort, RepliesShort}
 use Rattle.data.specs.Ranges.{countOf}
 use Rattle.data.proofs.Bounds.{passed}
 use Rattle.harl.proofs.Laws.{check-passed}
-use Rattle.harl.proofs.Bodies.{body-parts, part-length, outcome-length}
+use Rattle.bodies.proofs.Bodies.{body-parts, part-length, outcome-length}
 use Rattle.harl.proofs.Requests.{sound, asked-ok}
 use Rattle.harl.proofs.Replies.{checked-then}
 

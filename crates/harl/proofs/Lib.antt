@@ -1,5 +1,4 @@
 pub mod Laws
-pub mod Bodies
 pub mod Requests
 pub mod Replies
 pub mod Accepted

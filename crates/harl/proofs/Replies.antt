@@ -16,19 +16,19 @@ use Rattle.frame.proofs.Reading.{digit-clean}
 use Rattle.commands.specs.declared.command.Kind.{Kind}
 use Rattle.commands.specs.declared.command.Rule.{Rule}
 use Rattle.commands.specs.declared.request.Row.{Row}
-use Rattle.harl.specs.declared.reply.Data.{Data}
-use Rattle.harl.specs.declared.reply.Data.the-variants as held
-use Rattle.harl.specs.declared.reply.Outcome.{Outcome}
-use Rattle.harl.specs.declared.reply.Outcome.the-variants as outcome
-use Rattle.harl.specs.declared.reply.Carried.the-variants as carried
+use Rattle.bodies.specs.declared.reply.Data.{Data}
+use Rattle.bodies.specs.declared.reply.Data.the-variants as held
+use Rattle.bodies.specs.declared.reply.Outcome.{Outcome}
+use Rattle.bodies.specs.declared.reply.Outcome.the-variants as outcome
+use Rattle.bodies.specs.declared.reply.Carried.the-variants as carried
 use Rattle.data.specs.Ranges.{allInRange}
 use Rattle.data.specs.Data.{dataText}
-use Rattle.harl.specs.Reply.{contentOf, dataOf, dataFit, judgeOutcome, statusText, contentText, outcomeText, asStatus, readStatus, readLoadOutcome, readOutcome}
+use Rattle.bodies.specs.Reply.{contentOf, dataOf, dataFit, judgeOutcome, statusText, contentText, outcomeText, asStatus, readStatus, readLoadOutcome, readOutcome}
 use Rattle.harl.specs.Message.{ruleFor, judgeAsked, judgeReply, readReply, writeReply}
 use Rattle.harl.specs.Back.{RepliesReadBack}
 use Rattle.harl.proofs.Laws.{check-passed, fitting}
 use Rattle.data.proofs.Texts.{data-skips, data-clean, data-length, kept, data-back}
-use Rattle.harl.proofs.Bodies.{outcome-length, frame-back}
+use Rattle.bodies.proofs.Bodies.{outcome-length, frame-back}
 use Rattle.harl.proofs.Requests.{asked-ok}
 
 -- ---- a status

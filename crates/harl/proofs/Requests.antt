@@ -27,18 +27,18 @@ use Rattle.commands.specs.declared.request.Request.{Request}
 use Rattle.commands.specs.declared.request.Request.the-variants as request
 use Rattle.commands.specs.declared.request.Parts.{Parts}
 use Rattle.data.specs.declared.data.Values.the-variants as values
-use Rattle.harl.specs.declared.body.Shape.the-variants as shape
-use Rattle.harl.specs.declared.body.Judged.the-variants.{Accepted}
+use Rattle.bodies.specs.declared.body.Shape.the-variants as shape
+use Rattle.bodies.specs.declared.body.Judged.the-variants.{Accepted}
 use Rattle.commands.specs.Command.{nameOf, ruleOf}
 use Rattle.commands.proofs.Names.{name, name-solid}
 use Rattle.commands.specs.Request.{one, partsOf, requestOf}
 use Rattle.data.specs.Ranges.{countOf, judge, allInRange}
 use Rattle.data.specs.Data.{dataText}
-use Rattle.harl.specs.Body.{dataShape, readShape, requestOrRefusal, readBody, dataPart, bodyText}
+use Rattle.bodies.specs.Body.{dataShape, readShape, requestOrRefusal, readBody, dataPart, bodyText}
 use Rattle.harl.specs.Message.{ruleFor, judgeAsked, readRequest, writeRequest}
 use Rattle.harl.specs.Back.{RequestsReadBack}
 use Rattle.harl.proofs.Laws.{check-passed, neither}
-use Rattle.harl.proofs.Bodies.{body-length, frame-back}
+use Rattle.bodies.proofs.Bodies.{body-length, frame-back}
 use Rattle.data.proofs.Bounds.{passed}
 use Rattle.data.proofs.Texts.{shortest-solid, data-clean, kept, data-back}
 

@@ -1,5 +1,3 @@
-pub mod Body
-pub mod Reply
 pub mod Message
 pub mod Back
 pub mod Length

@@ -3,6 +3,4 @@
 // Four entries, none with a `requires`: read_request, write_request, write_reply and read_reply of
 // message.rt. What each returns is a definition of specs/Message.antt; that every request and every reply
 // that can be written reads back as itself is proved in proofs/.
-pub mod body; // body.rt: the body of a request, read and written
-pub mod reply; // reply.rt: the body of a reply, read and written
 pub mod message; // message.rt: the four entries

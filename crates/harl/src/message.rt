@@ -1,13 +1,13 @@
 // The four entries: a request read and written, a reply written and read. None has a `requires`. A refused
 // reader hands back its number alone; a refused writer reports length 0 and leaves the area untouched.
-use crate::body::Judged;
-use crate::body::put_body;
-use crate::body::read_body;
-use crate::reply::Carried;
-use crate::reply::Outcome;
-use crate::reply::judge_outcome;
-use crate::reply::put_outcome;
-use crate::reply::read_outcome;
+use bodies::body::Judged;
+use bodies::body::put_body;
+use bodies::body::read_body;
+use bodies::reply::Carried;
+use bodies::reply::Outcome;
+use bodies::reply::judge_outcome;
+use bodies::reply::put_outcome;
+use bodies::reply::read_outcome;
 use commands::command::rule_of;
 use commands::request::Request;
 use commands::request::parts_of;

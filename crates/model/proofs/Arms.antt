@@ -11,10 +11,10 @@ use Rattle.commands.specs.declared.request.Load.the-variants as load
 use Rattle.commands.specs.declared.request.Store.{Store}
 use Rattle.commands.specs.declared.request.Store.the-variants as store
 use Rattle.commands.specs.declared.request.Request.the-variants as request
-use Rattle.harl.specs.declared.body.Judged.{Judged}
-use Rattle.harl.specs.declared.body.Judged.the-variants as judged
-use Rattle.harl.specs.Body.{readBody}
-use Rattle.harl.specs.Reply.{statusText, outcomeText}
+use Rattle.bodies.specs.declared.body.Judged.{Judged}
+use Rattle.bodies.specs.declared.body.Judged.the-variants as judged
+use Rattle.bodies.specs.Body.{readBody}
+use Rattle.bodies.specs.Reply.{statusText, outcomeText}
 use Rattle.tables.specs.Tables.{loaded, stored}
 use Rattle.model.specs.Call.{Call, serve, input}
 use Rattle.model.specs.Box.{Box, at, Decision, unanswered, refused, accepted, inputSet, decideBody, perform, respond}

@@ -13,7 +13,7 @@ use Rattle.commands.specs.declared.request.Store.{Store}
 use Rattle.commands.specs.declared.request.Store.the-variants as store
 use Rattle.commands.specs.declared.request.Request.{Request}
 use Rattle.commands.specs.declared.request.Request.the-variants as request
-use Rattle.harl.specs.Reply.{contentOf, judgeOutcome, statusText, outcomeText}
+use Rattle.bodies.specs.Reply.{contentOf, judgeOutcome, statusText, outcomeText}
 use Rattle.harl.specs.Message.{ruleFor, writeRequest}
 use Rattle.harl.proofs.Laws.{Fitting}
 use Rattle.model.specs.Call.{Call, serve}

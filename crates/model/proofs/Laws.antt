@@ -18,14 +18,14 @@ use Rattle.commands.specs.declared.command.Rule.{Rule}
 use Rattle.commands.specs.declared.request.Row.{Row}
 use Rattle.commands.specs.declared.request.Request.{Request}
 use Rattle.commands.specs.Request.{one}
-use Rattle.harl.specs.declared.body.Judged.{Judged}
-use Rattle.harl.specs.declared.body.Judged.the-variants as judged
-use Rattle.harl.specs.declared.reply.Data.{Data}
-use Rattle.harl.specs.declared.reply.Outcome.{Outcome}
-use Rattle.harl.specs.declared.reply.Outcome.the-variants as outcome
+use Rattle.bodies.specs.declared.body.Judged.{Judged}
+use Rattle.bodies.specs.declared.body.Judged.the-variants as judged
+use Rattle.bodies.specs.declared.reply.Data.{Data}
+use Rattle.bodies.specs.declared.reply.Outcome.{Outcome}
+use Rattle.bodies.specs.declared.reply.Outcome.the-variants as outcome
 use Rattle.data.specs.Ranges.{limitsOf, inRange, eachInRange, allInRange, judge}
-use Rattle.harl.specs.Body.{readBody}
-use Rattle.harl.specs.Reply.{contentOf, codeOf, dataFit, judgeOutcome, outcomeText}
+use Rattle.bodies.specs.Body.{readBody}
+use Rattle.bodies.specs.Reply.{contentOf, codeOf, dataFit, judgeOutcome, outcomeText}
 use Rattle.harl.specs.Message.{ruleFor, judgeAsked, theRequest, noRequest, fromStation, requestIn, readRequest, writeRequest, judgeReply, writeReply, theOutcome, readReply}
 use Rattle.data.proofs.Bounds.{in-nat, head-in, tail-in, all-x, one-in, passed}
 use Rattle.harl.proofs.Laws.{check-passed, Fitting}

@@ -16,10 +16,10 @@ use Rattle.commands.specs.declared.request.Store.{Store}
 use Rattle.commands.specs.declared.request.Store.the-variants as store
 use Rattle.commands.specs.declared.request.Request.the-variants as request
 use Rattle.commands.specs.Command.{ruleOf}
-use Rattle.harl.specs.declared.body.Judged.{Judged}
-use Rattle.harl.specs.declared.body.Judged.the-variants as judged
+use Rattle.bodies.specs.declared.body.Judged.{Judged}
+use Rattle.bodies.specs.declared.body.Judged.the-variants as judged
 use Rattle.data.specs.Ranges.{inRange}
-use Rattle.harl.specs.Body.{readBody}
+use Rattle.bodies.specs.Body.{readBody}
 use Rattle.harl.specs.Message.{judgeRequest}
 use Rattle.data.proofs.Bounds.{in-size, and-left, and-right, zero-in, passed}
 use Rattle.harl.proofs.Accepted.{accepted-in-range}

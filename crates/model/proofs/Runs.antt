@@ -10,8 +10,8 @@ use Rattle.frame.specs.Frame.{stationOf, readInner, readFrame, opening, closing
 use Rattle.commands.specs.Command.{same, nameOf, among, commandOf}
 use Rattle.data.specs.Ranges.{inRange, eachInRange, allInRange, judge}
 use Rattle.data.specs.Data.{readFields, dataText}
-use Rattle.harl.specs.Body.{readShape, requestOrRefusal, readBody}
-use Rattle.harl.specs.Reply.{statusText, outcomeText}
+use Rattle.bodies.specs.Body.{readShape, requestOrRefusal, readBody}
+use Rattle.bodies.specs.Reply.{statusText, outcomeText}
 use Rattle.tables.specs.Tables.{loaded, stored, zeros}
 use Rattle.model.specs.Setup.{tooHigh, contains, repeats, setupNumber}
 use Rattle.model.specs.Box.{setup, scan, slotOf, decide, perform, respond, after, answer}

@@ -10,9 +10,9 @@ use borrow.Author.Tests.{ltb-false, leb-true, eqb-true, eqb-false, not-true, le-
 use lib.ListN.{getD, replicate, getD-replicate}
 use lib.Dec.{ltb, leb, eqb}
 use Rattle.frame.specs.Frame.{Reading, readFrame}
-use Rattle.harl.specs.declared.body.Judged.{Judged}
-use Rattle.harl.specs.declared.body.Judged.the-variants as judged
-use Rattle.harl.specs.Body.{readBody}
+use Rattle.bodies.specs.declared.body.Judged.{Judged}
+use Rattle.bodies.specs.declared.body.Judged.the-variants as judged
+use Rattle.bodies.specs.Body.{readBody}
 use Rattle.data.proofs.Bounds.{and-left, and-right}
 use Rattle.model.specs.Call.{Call, serve, input}
 use Rattle.model.specs.Setup.{setupNumber}

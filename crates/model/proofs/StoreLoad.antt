@@ -23,10 +23,10 @@ use Rattle.commands.specs.declared.request.Store.the-variants as store
 use Rattle.commands.specs.declared.request.Request.{Request}
 use Rattle.commands.specs.declared.request.Request.the-variants as request
 use Rattle.commands.specs.Request.{one, port, signal, partsOf}
-use Rattle.harl.specs.declared.reply.Data.the-variants as held
+use Rattle.bodies.specs.declared.reply.Data.the-variants as held
 use Rattle.data.specs.Ranges.{limitsOf, allInRange, judge}
-use Rattle.harl.specs.Body.{readBody}
-use Rattle.harl.specs.Reply.{dataOf}
+use Rattle.bodies.specs.Body.{readBody}
+use Rattle.bodies.specs.Reply.{dataOf}
 use Rattle.harl.specs.Message.{ruleFor, judgeRequest, judgeAsked, readRequest, writeRequest, noOutcome, readReply}
 use Rattle.tables.specs.Bits.{bit, withBit}
 use Rattle.tables.specs.Tables.{PerField, eachField, eachWith, EachField, asRow, withInputs, set2, LoadInRange, StoreInRange}

@@ -10,8 +10,8 @@ use Rattle.frame.specs.Fields.{first, more, fields}
 use Rattle.commands.specs.Command.{same, nameOf, among, commandOf}
 use Rattle.data.specs.Ranges.{inRange, eachInRange, allInRange, judge}
 use Rattle.data.specs.Data.{readFields, dataText}
-use Rattle.harl.specs.Body.{readShape, requestOrRefusal, readBody, bodyText}
-use Rattle.harl.specs.Reply.{dataFit, judgeOutcome, statusText, outcomeText}
+use Rattle.bodies.specs.Body.{readShape, requestOrRefusal, readBody, bodyText}
+use Rattle.bodies.specs.Reply.{dataFit, judgeOutcome, statusText, outcomeText}
 use Rattle.harl.specs.Message.{judgeAsked, writeRequest, judgeReply, writeReply}
 use Rattle.tables.specs.Tables.{loaded, stored, zeros}
 use Rattle.model.specs.Setup.{tooHigh, contains, repeats, setupNumber}

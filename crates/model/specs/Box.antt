@@ -8,10 +8,10 @@ use lib.ListN.{getD, replicate}
 use lib.Dec.{ltb, eqb}
 use Rattle.frame.specs.Frame.{Reading, readFrame, frameOf}
 use Rattle.commands.specs.declared.request.Request.{Request}
-use Rattle.harl.specs.declared.body.Judged.{Judged}
-use Rattle.harl.specs.declared.body.Judged.the-variants as judged
-use Rattle.harl.specs.Body.{readBody}
-use Rattle.harl.specs.Reply.{performedText, refusalText}
+use Rattle.bodies.specs.declared.body.Judged.{Judged}
+use Rattle.bodies.specs.declared.body.Judged.the-variants as judged
+use Rattle.bodies.specs.Body.{readBody}
+use Rattle.bodies.specs.Reply.{performedText, refusalText}
 use Rattle.tables.specs.Tables.{Tables, withInputs, set2, performed, outcomeAt, zeros}
 use Rattle.model.specs.Call.{Call, serve, input, Answer, noReply}
 use Rattle.model.specs.Setup.{setupNumber}

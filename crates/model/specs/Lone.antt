@@ -12,12 +12,12 @@ use Rattle.commands.specs.declared.request.Store.{Store}
 use Rattle.commands.specs.declared.request.Store.the-variants as store
 use Rattle.commands.specs.declared.request.Request.{Request}
 use Rattle.commands.specs.declared.request.Request.the-variants as request
-use Rattle.harl.specs.declared.body.Judged.{Judged}
-use Rattle.harl.specs.declared.body.Judged.the-variants as judged
-use Rattle.harl.specs.declared.reply.Data.{Data}
-use Rattle.harl.specs.declared.reply.Data.the-variants as held
-use Rattle.harl.specs.Body.{readBody}
-use Rattle.harl.specs.Reply.{contentOf, contentText, refusalText, doneText}
+use Rattle.bodies.specs.declared.body.Judged.{Judged}
+use Rattle.bodies.specs.declared.body.Judged.the-variants as judged
+use Rattle.bodies.specs.declared.reply.Data.{Data}
+use Rattle.bodies.specs.declared.reply.Data.the-variants as held
+use Rattle.bodies.specs.Body.{readBody}
+use Rattle.bodies.specs.Reply.{contentOf, contentText, refusalText, doneText}
 use Rattle.tables.specs.Bits.{bit, withBit}
 use Rattle.tables.specs.Tables.{PerKind, eachField, eachWith, asRow, tables, withTimers, withRegisters, withRows, withInputs, withOutputs, withMemory}
 use Rattle.model.specs.Call.{Answer, noReply}

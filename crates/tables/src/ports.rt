@@ -1,13 +1,13 @@
 // The ports of one arm, whole and by signal. Inputs, outputs and memory share it; inputs are only read here.
 use crate::place::Place;
+use bodies::reply::Data;
 use commands::request::Port;
-use harl::reply::Data;
 use text::hundredths::unsigned_abs;
 ghost use mathlib.Core.Path.{_≡_};
 ghost use Prim.Native.Nat.{_<_};
 ghost use lib.ListN.{length, getD, set};
 ghost use lib.IntN.{natAbs, pos};
-ghost use Rattle.harl.specs.declared.reply.Data.the-variants as held;
+ghost use Rattle.bodies.specs.declared.reply.Data.the-variants as held;
 ghost use Rattle.tables.specs.Bits.{bit, withBit};
 
 // Bit k of a byte.

@@ -4,7 +4,7 @@ use native.Mathlib.Omega.{arith}
 use borrow.Author.Needs.{needs}
 use Rattle.text.proofs.Digits.{shortest-short}
 use Rattle.frame.proofs.Writing.{opening-length, framed}
-use Rattle.harl.proofs.Bodies.{outcome-length, performed-text}
+use Rattle.bodies.proofs.Bodies.{outcome-length, performed-text}
 use Rattle.gateway.proofs.serve.put_reply.Statement.{statement}
 use Rattle.gateway.proofs.serve.put_reply.Tie as tie
 

@@ -8,8 +8,8 @@ use borrow.Author.Tests.{lt-ltb, le-ltb, eq-eqb, ne-eqb}
 use lib.ListN.{length}
 use Rattle.frame.specs.Frame.{Read, readFrame}
 use Rattle.harl.specs.declared.message.Sent.{Sent}
-use Rattle.harl.specs.Body.{readBody}
-use Rattle.harl.proofs.Bodies.{wrote-none}
+use Rattle.bodies.specs.Body.{readBody}
+use Rattle.harl.proofs.Laws.{wrote-none}
 use Rattle.tables.specs.Tables.{Tables}
 use Rattle.gateway.specs.declared.serve.Found.the-variants as found
 use Rattle.model.specs.Call.{serve}

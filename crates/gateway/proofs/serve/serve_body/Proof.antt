@@ -9,16 +9,17 @@ use lib.ListN.{length}
 use Rattle.text.specs.Put.{PutAt}
 use Rattle.frame.specs.Frame.{frameOf}
 use Rattle.commands.specs.declared.request.Request.{Request}
-use Rattle.harl.specs.declared.body.Judged.the-variants.{Accepted, Refused}
-use Rattle.harl.specs.declared.reply.Outcome.{Outcome}
-use Rattle.harl.specs.Body.{readBody}
-use Rattle.harl.specs.Reply.{performedText, refusalText}
+use Rattle.bodies.specs.declared.body.Judged.the-variants.{Accepted, Refused}
+use Rattle.bodies.specs.declared.reply.Outcome.{Outcome}
+use Rattle.bodies.specs.Body.{readBody}
+use Rattle.bodies.specs.Reply.{performedText, refusalText}
 use Rattle.harl.specs.Message.{Wrote}
 use Rattle.tables.specs.Tables.{Tables, performed, Performed}
 use Rattle.model.specs.Box.{respond}
 use Rattle.gateway.specs.Serving.{BodyServed}
 use Rattle.harl.proofs.Accepted.{accepted-in-range}
-use Rattle.harl.proofs.Bodies.{outcome-length, performed-text, refusal-length, frame-fits, wrote-all}
+use Rattle.bodies.proofs.Bodies.{outcome-length, performed-text, refusal-length, frame-fits}
+use Rattle.harl.proofs.Laws.{wrote-all}
 use Rattle.gateway.proofs.serve.serve_body.Statement.{statement}
 use Rattle.gateway.proofs.serve.serve_body.Tie as tie
 

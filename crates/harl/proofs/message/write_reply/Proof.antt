@@ -8,9 +8,10 @@ use lib.ListN.{length}
 use Rattle.text.proofs.Digits.{shortest-short}
 use Rattle.frame.specs.Frame.{frameOf}
 use Rattle.frame.proofs.Writing.{opening-length, framed}
-use Rattle.harl.specs.Reply.{judgeOutcome, outcomeText}
+use Rattle.bodies.specs.Reply.{judgeOutcome, outcomeText}
 use Rattle.harl.specs.Message.{judgeReply, writeReply}
-use Rattle.harl.proofs.Bodies.{outcome-length, frame-fits, wrote-none, wrote-all}
+use Rattle.bodies.proofs.Bodies.{outcome-length, frame-fits}
+use Rattle.harl.proofs.Laws.{wrote-none, wrote-all}
 use Rattle.harl.proofs.message.write_reply.Statement.{statement}
 use Rattle.harl.proofs.message.write_reply.Tie as tie
 

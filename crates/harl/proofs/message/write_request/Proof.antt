@@ -8,9 +8,10 @@ use Rattle.text.proofs.Digits.{shortest-short}
 use lib.ListN.{length}
 use Rattle.frame.specs.Frame.{frameOf}
 use Rattle.frame.proofs.Writing.{opening-length, framed}
-use Rattle.harl.specs.Body.{bodyText}
+use Rattle.bodies.specs.Body.{bodyText}
 use Rattle.harl.specs.Message.{writeRequest, judgeAsked}
-use Rattle.harl.proofs.Bodies.{body-length, frame-fits, wrote-none, wrote-all}
+use Rattle.bodies.proofs.Bodies.{body-length, frame-fits}
+use Rattle.harl.proofs.Laws.{wrote-none, wrote-all}
 use Rattle.harl.proofs.message.write_request.Statement.{statement}
 use Rattle.harl.proofs.message.write_request.Tie as tie
 

@@ -2,7 +2,7 @@ use mathlib.Core.Path.{ap, _∙_}
 use lib.IntN.{pos}
 use mir.Facts.{toZ-ofZ}
 use mir.Syntax.{w32}
-use Rattle.harl.specs.declared.reply.Data.the-variants as held
+use Rattle.bodies.specs.declared.reply.Data.the-variants as held
 use borrow.Author.Needs.{needs}
 use Rattle.tables.proofs.ports.load_signal.Statement.{statement}
 use Rattle.tables.proofs.ports.load_signal.Tie as tie

@@ -1,0 +1,77 @@
+-- The body of a request (document 01, "Commands" and refusals 9 to 12).
+use Prim.Native.Nat.{ℕ}
+use mathlib.Core.Bool.{Bool, true, false, cond}
+use mathlib.Core.List.{List, [], _∷_, _++_}
+use lib.Dec.{eqb}
+use lib.IntN.{pos}
+use Rattle.text.specs.Whole.{readWhole, shortest}
+use Rattle.text.specs.declared.whole.Whole.{Whole}
+use Rattle.text.specs.declared.whole.Whole.the-variants as whole
+use Rattle.frame.specs.Fields.{fields}
+use Rattle.commands.specs.declared.command.Command.{Command}
+use Rattle.commands.specs.declared.command.Named.{Named}
+use Rattle.commands.specs.declared.command.Named.the-variants.{Is, Unknown}
+use Rattle.commands.specs.declared.command.Kind.{Kind}
+use Rattle.commands.specs.declared.command.Rule.{Rule}
+use Rattle.commands.specs.declared.request.Row.{Row}
+use Rattle.commands.specs.declared.request.Parts.{Parts}
+use Rattle.data.specs.declared.data.Values.{Values}
+use Rattle.data.specs.declared.data.Values.the-variants as values
+use Rattle.bodies.specs.declared.body.Shape.{Shape}
+use Rattle.bodies.specs.declared.body.Shape.the-variants as shape
+use Rattle.bodies.specs.declared.body.Judged.{Judged}
+use Rattle.bodies.specs.declared.body.Judged.the-variants.{Accepted, Refused}
+use Rattle.commands.specs.Command.{commandOf, nameOf, ruleOf}
+use Rattle.commands.specs.Request.{one, builds}
+use Rattle.data.specs.Ranges.{judge}
+use Rattle.data.specs.Data.{readData, dataText}
+
+-- the fields after the number: data for an SN, none for an LN
+abbrev pub dataShape : Bool → Kind → List (List ℕ) → Values
+dataShape true k fs = readData k fs
+dataShape false k [] = values.Of (one (pos 0))
+dataShape false k (f ∷ fs) = values.Malformed
+
+abbrev pub numbered : Whole → Values → Shape
+numbered (whole.Value n) (values.Of r) = shape.Of n r
+numbered (whole.Value n) values.Malformed = shape.Malformed
+numbered whole.Malformed v = shape.Malformed
+
+-- the fields after the name: the number, then the data
+unfoldable pub readShape : Rule → List (List ℕ) → Shape
+readShape rule [] = shape.Malformed
+readShape rule (n ∷ fs) = numbered (readWhole n) (dataShape (rule .store) (rule .kind) fs)
+
+-- 11 NUMBER, 12 VALUE, or the request
+unfoldable pub requestOrRefusal : Command → ℕ → Row → Judged
+requestOrRefusal c n r =
+    cond (eqb (judge (ruleOf c) n r) 0) (Accepted (builds c n r)) (Refused (judge (ruleOf c) n r) (ruleOf c .store))
+
+-- 10 SHAPE, then those
+abbrev pub shaped : Command → Shape → Judged
+shaped c (shape.Of n r) = requestOrRefusal c n r
+shaped c shape.Malformed = Refused 10 (ruleOf c .store)
+
+-- 9 COMMAND, then those
+abbrev pub afterName : Named → List (List ℕ) → Judged
+afterName (Is c) fs = shaped c (readShape (ruleOf c) fs)
+afterName Unknown fs = Refused 9 false
+
+abbrev pub ofFields : List (List ℕ) → Judged
+ofFields [] = Refused 9 false
+ofFields (name ∷ fs) = afterName (commandOf name) fs
+
+-- a body as a request: checks 9 to 12, in their order
+unfoldable pub readBody : List ℕ → Judged
+readBody s = ofFields (fields s)
+
+-- SP and the data, for an SN
+abbrev pub dataPart : Bool → Kind → Row → List ℕ
+dataPart true k r = 32 ∷ dataText k r
+dataPart false k r = []
+
+-- the name, SP, the number, and for an SN the data
+unfoldable pub bodyText : Parts → List ℕ
+bodyText p =
+    nameOf (p .command)
+    ++ (32 ∷ (shortest (p .number) ++ dataPart (ruleOf (p .command) .store) (ruleOf (p .command) .kind) (p .values)))
