@@ -3,12 +3,12 @@ use Prim.Native.Nat.{ℕ, _+_, _*_, _≤_, _<_, _/_, _%_}
 use mathlib.Core.Path.{_≡_, refl, ap, _∙_}
 use mathlib.Core.Bool.{Bool, true, false}
 use mathlib.Core.List.{List, [], _∷_, _++_}
+use mathlib.Core.Option.{some}
 use native.Mathlib.Omega.{arith}
 use native.Mathlib.Nat.{add-sub-cancel, div-eq-of-lt}
 use borrow.Author.Tests.{le-leb, lt-ltb, le-ltb, ltb-true, ltb-false}
 use lib.Dec.{ltb}
 use lib.ListN.{length, length-append}
-use Rattle.text.specs.declared.whole.Whole.the-variants.{Value}
 use Rattle.text.specs.Scan.{until}
 use Rattle.text.proofs.Laws.{Skips, skips-append}
 use Rattle.text.specs.Whole.{isDigit, digitsOnto, readWhole, digit, leading, shortest, twoDigits, padded}
@@ -95,29 +95,29 @@ leading-read u v n bs e = go (ltb v u) refl
     go false q = rw (leading-some u v (ltb-false v u q)) (digit-read u v n bs e)
 
 -- the last digit, in either form
-last-read : (v n : ℕ) → n ≡ v / 10 → digitsOnto n (digit 1 v) ≡ Value v
+last-read : (v n : ℕ) → n ≡ v / 10 → digitsOnto n (digit 1 v) ≡ some v
 unfolding digit digitsOnto
-last-read v n e = digit-read 1 v n [] (omega arith) ∙ ap Value (omega arith)
+last-read v n e = digit-read 1 v n [] (omega arith) ∙ ap some (omega arith)
 
 -- 1 to 4 digits are a whole number
-read-is : (s : List ℕ) (v : ℕ) → 1 ≤ length s → length s ≤ 4 → digitsOnto 0 s ≡ Value v → readWhole s ≡ Value v
+read-is : (s : List ℕ) (v : ℕ) → 1 ≤ length s → length s ≤ 4 → digitsOnto 0 s ≡ some v → readWhole s ≡ some v
 unfolding readWhole
 read-is s v a b e = rw (le-leb _ _ a, le-leb _ _ b) e
 
-pub read-shortest : (v : ℕ) → v < 10000 → readWhole (shortest v) ≡ Value v
+pub read-shortest : (v : ℕ) → v < 10000 → readWhole (shortest v) ≡ some v
 unfolding shortest
 read-shortest v h =
     read-is (shortest v) v (shortest-some v) (shortest-short v)
     (leading-read 1000 v 0 _ (omega arith) ∙ leading-read 100 v _ _ (omega arith) ∙ leading-read 10 v _ _ (omega arith) ∙ last-read v _ refl)
 
-pub read-padded : (v : ℕ) → v < 10000 → readWhole (padded v) ≡ Value v
+pub read-padded : (v : ℕ) → v < 10000 → readWhole (padded v) ≡ some v
 unfolding padded
 read-padded v h =
     read-is (padded v) v (omega (arith, padded-length v)) (omega (arith, padded-length v))
     (digit-read 1000 v 0 _ (omega arith) ∙ digit-read 100 v _ _ (omega arith) ∙ digit-read 10 v _ _ (omega arith) ∙ last-read v _ refl)
 
 -- two digits, as after a point
-pub read-two : (v : ℕ) → v < 100 → readWhole (twoDigits v) ≡ Value v
+pub read-two : (v : ℕ) → v < 100 → readWhole (twoDigits v) ≡ some v
 read-two v h =
     let k : length (twoDigits v) ≡ 2 = two-length v in
     read-is (twoDigits v) v (omega arith) (omega arith) (digit-read 10 v 0 (digit 1 v) (omega arith) ∙ last-read v _ refl)

@@ -3,6 +3,7 @@ use Prim.Native.Nat.{ℕ, zero, suc, _+_, _*_, _-_, _≤_, _<_}
 use mathlib.Core.Path.{_≡_, refl, sym, ap, subst, _∙_}
 use mathlib.Core.Bool.{Bool, true, false, cond, _&&_}
 use mathlib.Core.List.{List, [], _∷_}
+use mathlib.Core.Option.{Option, none, some, Option·none-ne-some}
 use native.Mathlib.Omega.{arith}
 use borrow.Author.Tests.{le-leb, lt-leb, lt-ltb, eq-eqb, ne-eqb}
 use lib.Dec.{leb, ltb, eqb, leb·suc-suc}
@@ -10,8 +11,9 @@ use lib.Arith.{lt-of-le-ne}
 use lib.ListN.{length, getD, take, drop, length-drop}
 use lib.Seq.{length-take-le, drop-drop, getD-drop}
 use Rattle.text.specs.Scan.{until, before, fieldAt, endAt, emptyOr}
-use Rattle.text.specs.Whole.{isDigit, digitsOnto, readWhole, digitCount, digitValue}
+use Rattle.text.specs.Whole.{isDigit, digitsOnto, readWhole, wholeAt, digitCount, digitValue}
 use Rattle.text.specs.Hundredths.{magnitude, joined, decimals}
+use Rattle.text.specs.declared.whole.Whole.{Whole}
 use Rattle.text.specs.declared.whole.Whole.the-variants.{Value, Malformed}
 use Rattle.text.specs.declared.hundredths.Magnitude.the-variants.{Size, Unreadable}
 use Rattle.text.proofs.Laws.{here, over}
@@ -92,22 +94,22 @@ module _ (a : ℕ) (nd : isDigit a ≡ false) where
       go false false e f ih = rw e
 
   -- the part up to the first a, read onto n, where it has k bytes at most
-  read-onto : (k n : ℕ) (s : List ℕ) → cond (leb (before a s) k) (digitsOnto n (take (before a s) s)) Malformed ≡ cond (emptyOr a (drop (digitCount k s) s)) (Value (digitValue k n s)) Malformed
+  read-onto : (k n : ℕ) (s : List ℕ) → cond (leb (before a s) k) (digitsOnto n (take (before a s) s)) none ≡ cond (emptyOr a (drop (digitCount k s) s)) (some (digitValue k n s)) none
   unfolding until digitCount digitValue digitsOnto
   read-onto zero n [] = refl
   read-onto zero n (b ∷ bs) = go (eqb b a)
     where
-      go : (u : Bool) → cond (leb (cond u zero (suc (before a bs))) 0) (digitsOnto n (take (cond u zero (suc (before a bs))) (b ∷ bs))) Malformed ≡ cond u (Value n) Malformed
+      go : (u : Bool) → cond (leb (cond u zero (suc (before a bs))) 0) (digitsOnto n (take (cond u zero (suc (before a bs))) (b ∷ bs))) none ≡ cond u (some n) none
       go true = refl
       go false = rw (lt-leb (suc (before a bs)) 0 (omega arith))
   read-onto (suc k) n [] = rw (le-leb 0 (suc k) (omega arith))
   read-onto (suc k) n (b ∷ bs) = go (isDigit b) (eqb b a) refl refl (read-onto k (n * 10 + (b - 48)) bs)
     where
-      go : (t u : Bool) → isDigit b ≡ t → eqb b a ≡ u → cond (leb (before a bs) k) (digitsOnto (n * 10 + (b - 48)) (take (before a bs) bs)) Malformed ≡ cond (emptyOr a (drop (digitCount k bs) bs)) (Value (digitValue k (n * 10 + (b - 48)) bs)) Malformed → cond (leb (cond u zero (suc (before a bs))) (suc k)) (digitsOnto n (take (cond u zero (suc (before a bs))) (b ∷ bs))) Malformed ≡ cond (emptyOr a (drop (cond t (suc (digitCount k bs)) zero) (b ∷ bs))) (Value (cond t (digitValue k (n * 10 + (b - 48)) bs) n)) Malformed
+      go : (t u : Bool) → isDigit b ≡ t → eqb b a ≡ u → cond (leb (before a bs) k) (digitsOnto (n * 10 + (b - 48)) (take (before a bs) bs)) none ≡ cond (emptyOr a (drop (digitCount k bs) bs)) (some (digitValue k (n * 10 + (b - 48)) bs)) none → cond (leb (cond u zero (suc (before a bs))) (suc k)) (digitsOnto n (take (cond u zero (suc (before a bs))) (b ∷ bs))) none ≡ cond (emptyOr a (drop (cond t (suc (digitCount k bs)) zero) (b ∷ bs))) (some (cond t (digitValue k (n * 10 + (b - 48)) bs) n)) none
       go true true e f ih = false-true (sym (other b e) ∙ f)
       go true false e f ih = rw (leb·suc-suc (before a bs) k, e) ih
       go false true e f ih = rw (f, le-leb 0 (suc k) (omega arith))
-      go false false e f ih = rw (e, f) (either (leb (suc (before a bs)) (suc k)) Malformed)
+      go false false e f ih = rw (e, f) (either (leb (suc (before a bs)) (suc k)) none)
 
   -- nothing stands before it
   none-before : (s : List ℕ) → emptyOr a s ≡ true → before a s ≡ 0
@@ -123,24 +125,24 @@ module _ (a : ℕ) (nd : isDigit a ≡ false) where
     pub digits-end : emptyOr a (drop (digitCount 4 s) s) ≡ true → before a s ≡ digitCount 4 s
     digits-end e = omega (arith, digits-before 4 s, none-before (drop (digitCount 4 s) s) e)
 
-    pub whole-read : 1 ≤ digitCount 4 s → emptyOr a (drop (digitCount 4 s) s) ≡ true → readWhole (take (before a s) s) ≡ Value (digitValue 4 0 s)
+    pub whole-read : 1 ≤ digitCount 4 s → emptyOr a (drop (digitCount 4 s) s) ≡ true → readWhole (take (before a s) s) ≡ some (digitValue 4 0 s)
     unfolding readWhole
     whole-read h e = rw (part-length, le-leb 1 (before a s) (omega (arith, digits-end e))) (read-onto 4 0 s ∙ rw e)
 
     -- they end at another byte, or there are none
-    pub whole-other : emptyOr a (drop (digitCount 4 s) s) ≡ false → readWhole (take (before a s) s) ≡ Malformed
+    pub whole-other : emptyOr a (drop (digitCount 4 s) s) ≡ false → readWhole (take (before a s) s) ≡ none
     unfolding readWhole
     whole-other e = rw part-length (go (leb 1 (before a s)) (read-onto 4 0 s ∙ rw e))
       where
-        go : (t : Bool) → cond (leb (before a s) 4) (digitsOnto 0 (take (before a s) s)) Malformed ≡ Malformed → cond (t && leb (before a s) 4) (digitsOnto 0 (take (before a s) s)) Malformed ≡ Malformed
+        go : (t : Bool) → cond (leb (before a s) 4) (digitsOnto 0 (take (before a s) s)) none ≡ none → cond (t && leb (before a s) 4) (digitsOnto 0 (take (before a s) s)) none ≡ none
         go true p = p
         go false p = refl
 
-    pub whole-none : digitCount 4 s ≡ 0 → readWhole (take (before a s) s) ≡ Malformed
+    pub whole-none : digitCount 4 s ≡ 0 → readWhole (take (before a s) s) ≡ none
     unfolding readWhole
     whole-none z = go (emptyOr a (drop (digitCount 4 s) s)) refl
       where
-        go : (t : Bool) → emptyOr a (drop (digitCount 4 s) s) ≡ t → readWhole (take (before a s) s) ≡ Malformed
+        go : (t : Bool) → emptyOr a (drop (digitCount 4 s) s) ≡ t → readWhole (take (before a s) s) ≡ none
         go true e = rw (part-length, lt-leb 1 (before a s) (omega (arith, digits-end e)))
         go false e = whole-other e
 
@@ -160,33 +162,42 @@ some-digits i (suc n) q h = omega arith
 
 -- ---- what is malformed is no number
 
-pub no-whole : {A : Type 0} {v : ℕ} → Malformed ≡ Value v → A
+pub no-whole : {A : Type 0} {p v : ℕ} → Malformed p ≡ Value v → A
 no-whole e = let z : _≡_ {A = ℕ} 0 1 = cc in absurd (omega arith)
+
+-- the answer tells what was read
+pub told-some : (at : ℕ) (o : Option ℕ) {w : Whole} {v : ℕ} → w ≡ wholeAt at o → w ≡ Value v → o ≡ some v
+told-some at (some u) e q = ap some cc
+told-some at none e q = no-whole (sym e ∙ q)
+
+pub told-none : (at : ℕ) (o : Option ℕ) {w : Whole} {p : ℕ} → w ≡ wholeAt at o → w ≡ Malformed p → o ≡ none
+told-none at (some u) e q = no-whole (sym q ∙ e)
+told-none at none e q = refl
 
 pub no-magnitude : {A : Type 0} {m : ℕ} → Unreadable ≡ Size m → A
 no-magnitude e = let z : _≡_ {A = ℕ} 0 1 = cc in absurd (omega arith)
 
 -- ---- a field as the digits after a point
 
-pub decimals-none : (f : List ℕ) → readWhole f ≡ Malformed → decimals f ≡ Malformed
+pub decimals-none : (f : List ℕ) → readWhole f ≡ none → decimals f ≡ none
 unfolding decimals
-decimals-none f e = rw e (either (ltb 2 (length f)) Malformed)
+decimals-none f e = rw e (either (ltb 2 (length f)) none)
 
-module _ (f : List ℕ) {v : ℕ} (e : readWhole f ≡ Value v) where
-  pub decimals-one : length f ≡ 1 → decimals f ≡ Value (v * 10)
+module _ (f : List ℕ) {v : ℕ} (e : readWhole f ≡ some v) where
+  pub decimals-one : length f ≡ 1 → decimals f ≡ some (v * 10)
   unfolding decimals
   decimals-one l = rw (l, e)
 
-  pub decimals-two : length f ≡ 2 → decimals f ≡ Value v
+  pub decimals-two : length f ≡ 2 → decimals f ≡ some v
   unfolding decimals
-  decimals-two l = rw (l, e) (ap Value (omega arith))
+  decimals-two l = rw (l, e) (ap some (omega arith))
 
-  pub decimals-more : (length f ≡ 1 → ⊥) → (length f ≡ 2 → ⊥) → decimals f ≡ Malformed
+  pub decimals-more : (length f ≡ 1 → ⊥) → (length f ≡ 2 → ⊥) → decimals f ≡ none
   unfolding decimals readWhole
   decimals-more n m = go (length f) refl
     where
-      go : (l : ℕ) → length f ≡ l → decimals f ≡ Malformed
-      go zero z = no-whole (rw z at e)
+      go : (l : ℕ) → length f ≡ l → decimals f ≡ none
+      go zero z = absurd (Option·none-ne-some v (rw z at e))
       go (suc zero) z = absurd (n z)
       go (suc (suc zero)) z = absurd (m z)
       go (suc (suc (suc l))) z = rw (lt-ltb 2 (length f) (omega arith))
@@ -244,7 +255,7 @@ module _ (t : List ℕ) where
     magnitude-other h = rw (whole-other 46 refl field (rw (count, behind) (ne-eqb _ _ h)))
 
     -- a point
-    magnitude-point : 1 ≤ digitCount 4 t → getD t (digitCount 4 t) 0 ≡ 46 → magnitude (take (before 32 t) t) ≡ joined (Value (digitValue 4 0 t)) (decimals (take (before 32 (drop (digitCount 4 t + 1) t)) (drop (digitCount 4 t + 1) t)))
+    magnitude-point : 1 ≤ digitCount 4 t → getD t (digitCount 4 t) 0 ≡ 46 → magnitude (take (before 32 t) t) ≡ joined (some (digitValue 4 0 t)) (decimals (take (before 32 (drop (digitCount 4 t + 1) t)) (drop (digitCount 4 t + 1) t)))
     unfolding magnitude field
     magnitude-point h e =
         let stop : emptyOr 46 (drop (digitCount 4 field) field) ≡ true = rw (count, behind) (eq-eqb _ _ e) in
@@ -273,7 +284,7 @@ module _ (s : List ℕ) (i e : ℕ) (q : e ≡ i + digitCount 4 (drop i s)) wher
     pub field-other : (getD s e 0 ≡ 46 → ⊥) → magnitude (fieldAt s i) ≡ Unreadable
     field-other n = magnitude-other (drop i s) within (end-test s i (digitCount 4 (drop i s)) q r) (λ z. n (sym byte ∙ z))
 
-    pub field-point : (e ≡ i → ⊥) → getD s e 0 ≡ 46 → (magnitude (fieldAt s i) ≡ joined (Value (digitValue 4 0 (drop i s))) (decimals (fieldAt s (e + 1)))) × (endAt s (e + 1) ≡ endAt s i)
+    pub field-point : (e ≡ i → ⊥) → getD s e 0 ≡ 46 → (magnitude (fieldAt s i) ≡ joined (some (digitValue 4 0 (drop i s))) (decimals (fieldAt s (e + 1)))) × (endAt s (e + 1) ≡ endAt s i)
     field-point n z =
         let t = end-test s i (digitCount 4 (drop i s)) q r in
         let k : i + (digitCount 4 (drop i s) + 1) ≡ e + 1 = omega arith in

@@ -2,6 +2,7 @@
 use Prim.Native.Nat.{ℕ, zero, suc, _+_, _-_, _*_, _/_, _%_}
 use mathlib.Core.Bool.{Bool, cond, _&&_}
 use mathlib.Core.List.{List, [], _∷_, _++_}
+use mathlib.Core.Option.{Option, none, some}
 use lib.ListN.{length}
 use lib.Dec.{ltb, leb}
 use Rattle.text.specs.declared.whole.Whole.{Whole}
@@ -12,13 +13,18 @@ abbrev pub isDigit : ℕ → Bool
 isDigit b = leb 48 b && leb b 57
 
 -- the digits read onto n
-unfoldable pub digitsOnto : ℕ → List ℕ → Whole
-digitsOnto n [] = Value n
-digitsOnto n (b ∷ bs) = cond (isDigit b) (digitsOnto (n * 10 + (b - 48)) bs) Malformed
+unfoldable pub digitsOnto : ℕ → List ℕ → Option ℕ
+digitsOnto n [] = some n
+digitsOnto n (b ∷ bs) = cond (isDigit b) (digitsOnto (n * 10 + (b - 48)) bs) none
 
--- 1 to 4 digits, leading zeros allowed, no sign
-unfoldable pub readWhole : List ℕ → Whole
-readWhole s = cond (leb 1 (length s) && leb (length s) 4) (digitsOnto 0 s) Malformed
+-- 1 to 4 digits, leading zeros allowed, no sign; none for any other text
+unfoldable pub readWhole : List ℕ → Option ℕ
+readWhole s = cond (leb 1 (length s) && leb (length s) 4) (digitsOnto 0 s) none
+
+-- the answer for a text that stands at a position: a malformed one is reported there
+abbrev pub wholeAt : ℕ → Option ℕ → Whole
+wholeAt at (some v) = Value v
+wholeAt at none = Malformed at
 
 -- how many digits a text starts with, of its first k bytes
 unfoldable pub digitCount : ℕ → List ℕ → ℕ

@@ -17,10 +17,11 @@ ghost use lib.ListN.{length};
 ghost use lib.IntN.{ℤ, natAbs};
 ghost use Rattle.text.specs.Put.{Put};
 ghost use Rattle.text.specs.Scan.{fieldAt, endAt};
+ghost use Rattle.text.specs.Whole.{wholeAt};
 ghost use Rattle.text.specs.declared.whole.Whole.the-variants as whole;
 ghost use Rattle.text.specs.declared.hundredths.Magnitude.the-variants.{Size};
 ghost use Rattle.text.specs.declared.hundredths.Hundredths.the-variants.{Value};
-ghost use Rattle.text.specs.Hundredths.{Small, decimals, magnitude, signed, readHundredths, magnitudeText, sign, hundredthsText};
+ghost use Rattle.text.specs.Hundredths.{Small, decimals, magnitude, signed, readHundredths, hundredthsAt, magnitudeText, sign, hundredthsText};
 
 // A number of hundredths without its sign.
 pub enum Magnitude {
@@ -28,10 +29,10 @@ pub enum Magnitude {
     Unreadable,
 }
 
-// What a text is as a number of hundredths.
+// What a text is as a number of hundredths; a malformed one, with the position where it stands.
 pub enum Hundredths {
     Value(i32),
-    Malformed,
+    Malformed(usize),
 }
 
 // What a field is as either, and where the field ends. The end of one that cannot be read is not looked for.
@@ -48,7 +49,7 @@ pub struct HundredthsField {
 // Reads the field at `from` as the digits after a point: one counts tenths, two count hundredths.
 fn read_decimals(s: &[u8], from: usize) -> WholeField
     requires { ⌜ from ≤ length (now s) ⌝ }
-    ensures { λ r. ⌜ r .whole ≡ decimals (fieldAt (now (s .entry)) from) ⌝ }
+    ensures { λ r. ⌜ r .whole ≡ wholeAt from (decimals (fieldAt (now (s .entry)) from)) ⌝ }
     ensures { λ r. ⌜ ((v : ℕ) → r .whole ≡ whole.Value v → r .end ≡ endAt (now (s .entry)) from) ⌝ }
 {
     let read = read_whole(s, from);
@@ -56,7 +57,7 @@ fn read_decimals(s: &[u8], from: usize) -> WholeField
     let whole = read.whole;
     let Whole::Value(v) = whole else {
         return WholeField {
-            whole: Whole::Malformed,
+            whole: Whole::Malformed(from),
             end,
         };
     };
@@ -73,7 +74,7 @@ fn read_decimals(s: &[u8], from: usize) -> WholeField
         };
     }
     WholeField {
-        whole: Whole::Malformed,
+        whole: Whole::Malformed(from),
         end,
     }
 }
@@ -113,17 +114,17 @@ fn read_magnitude(s: &[u8], from: usize) -> MagnitudeField
             magnitude: Magnitude::Size(units * 100 + cents as u32),
             end,
         },
-        Whole::Malformed => MagnitudeField {
+        Whole::Malformed(_) => MagnitudeField {
             magnitude: Magnitude::Unreadable,
             end,
         },
     }
 }
 
-// The magnitude with its sign.
-fn with_sign(m: Magnitude, minus: bool) -> Hundredths
+// The magnitude with its sign, of a field at `at`.
+fn with_sign(m: Magnitude, minus: bool, at: usize) -> Hundredths
     requires { ⌜ Small m ⌝ }
-    ensures { λ r. ⌜ r ≡ signed minus m ⌝ }
+    ensures { λ r. ⌜ r ≡ hundredthsAt at (signed minus m) ⌝ }
 {
     match m {
         Magnitude::Size(k) => {
@@ -132,7 +133,7 @@ fn with_sign(m: Magnitude, minus: bool) -> Hundredths
             }
             Hundredths::Value(k as i32)
         }
-        Magnitude::Unreadable => Hundredths::Malformed,
+        Magnitude::Unreadable => Hundredths::Malformed(at),
     }
 }
 
@@ -153,14 +154,14 @@ fn after_sign(s: &[u8], from: usize) -> usize
 // Reads the field at `from` as a number of hundredths, byte by byte up to its end; any other text is malformed.
 pub fn read_hundredths(s: &[u8], from: usize) -> HundredthsField
     requires { ⌜ from ≤ length (now s) ⌝ }
-    ensures { λ r. ⌜ r .hundredths ≡ readHundredths (fieldAt (now (s .entry)) from) ⌝ }
+    ensures { λ r. ⌜ r .hundredths ≡ hundredthsAt from (readHundredths (fieldAt (now (s .entry)) from)) ⌝ }
     ensures { λ r. ⌜ ((v : ℤ) → r .hundredths ≡ Value v → r .end ≡ endAt (now (s .entry)) from) ⌝ }
 {
     let start = after_sign(s, from);
     let read = read_magnitude(s, start);
     let size = read.magnitude;
     HundredthsField {
-        hundredths: with_sign(size, start != from),
+        hundredths: with_sign(size, start != from, from),
         end: read.end,
     }
 }

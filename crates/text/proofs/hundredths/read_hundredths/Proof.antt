@@ -6,7 +6,7 @@ use native.Mathlib.Omega.{arith}
 use borrow.Author.Needs.{needs}
 use lib.Dec.{eqb}
 use lib.IntN.{ℤ}
-use Rattle.text.specs.Hundredths.{Small, signed}
+use Rattle.text.specs.Hundredths.{Small, signed, hundredthsAt}
 use Rattle.text.specs.declared.hundredths.Magnitude.{Magnitude}
 use Rattle.text.specs.declared.hundredths.Magnitude.the-variants.{Size, Unreadable}
 use Rattle.text.specs.declared.hundredths.Hundredths.the-variants.{Value, Malformed}
@@ -15,14 +15,14 @@ use Rattle.text.proofs.hundredths.read_hundredths.Statement.{statement}
 use Rattle.text.proofs.hundredths.read_hundredths.Tie as tie
 
 -- a field that can be read was read to its end
-no-hundredths : {A : Type 0} {v : ℤ} → Malformed ≡ Value v → A
+no-hundredths : {A : Type 0} {p : ℕ} {v : ℤ} → Malformed p ≡ Value v → A
 no-hundredths e = let z : _≡_ {A = ℕ} 0 1 = cc in absurd (omega arith)
 
-to-end : (t : Bool) (g : Magnitude) {v : ℤ} {A : Type 0} → signed t g ≡ Value v → ((m : ℕ) → g ≡ Size m → A) → A
-to-end true (Size m) e h = h m refl
-to-end false (Size m) e h = h m refl
-to-end true Unreadable e h = no-hundredths e
-to-end false Unreadable e h = no-hundredths e
+to-end : (t : Bool) (g : Magnitude) (at : ℕ) {v : ℤ} {A : Type 0} → hundredthsAt at (signed t g) ≡ Value v → ((m : ℕ) → g ≡ Size m → A) → A
+to-end true (Size m) at e h = h m refl
+to-end false (Size m) at e h = h m refl
+to-end true Unreadable at e h = no-hundredths e
+to-end false Unreadable at e h = no-hundredths e
 
 with-sign-requires : tie.Need-with-sign-requires
 with-sign-requires c κs = subst Small (sym (c .read-magnitude .ensures .0)) (magnitude-small _)
@@ -31,9 +31,10 @@ returns : tie.Need-returns
 returns c =
     let r = c .before in
     let a = r .before in
-    let minus = not (eqb (a .after-sign .result) (a .before .before .args .from)) in (
-      c .with-sign .ensures ∙ ap (signed minus) (r .read-magnitude .ensures .0) ∙ sym (a .after-sign .ensures .0),
-      λ v e. to-end minus (r .read-magnitude .result .magnitude) (sym (c .with-sign .ensures) ∙ e) (λ m q. r .read-magnitude .ensures .1 m q ∙ a .after-sign .ensures .1 .0),
+    let from = a .before .before .args .from in
+    let minus = not (eqb (a .after-sign .result) from) in (
+      c .with-sign .ensures ∙ ap (hundredthsAt from) (ap (signed minus) (r .read-magnitude .ensures .0) ∙ sym (a .after-sign .ensures .0)),
+      λ v e. to-end minus (r .read-magnitude .result .magnitude) from (sym (c .with-sign .ensures) ∙ e) (λ m q. r .read-magnitude .ensures .1 m q ∙ a .after-sign .ensures .1 .0),
     )
 
 pub read-hundredths-spec : {M : Type 1} → statement M

@@ -1,13 +1,14 @@
 -- `d` is where the digits were read, `e` where their end was tested, `r` where the decimals were read, and `s` where the
 -- function starts.
 use mathlib.Core.Path.{sym, ap, _∙_}
+use mathlib.Core.Option.{some}
 use native.Mathlib.Omega.{arith}
 use borrow.Author.Needs.{needs}
-use Prim.Native.Nat.{ℕ, _*_}
-use Rattle.text.specs.Hundredths.{joined}
-use Rattle.text.specs.declared.whole.Whole.the-variants.{Value}
+use Prim.Native.Nat.{ℕ, _+_, _*_}
+use Rattle.text.specs.Scan.{fieldAt}
+use Rattle.text.specs.Hundredths.{joined, decimals}
 use Rattle.text.specs.declared.hundredths.Magnitude.the-variants.{Size}
-use Rattle.text.proofs.Fields.{field-none, inside, field-whole, field-other, field-point, no-magnitude}
+use Rattle.text.proofs.Fields.{field-none, inside, field-whole, field-other, field-point, no-magnitude, told-some, told-none}
 use Rattle.text.proofs.hundredths.read_magnitude.Statement.{statement}
 use Rattle.text.proofs.hundredths.read_magnitude.Tie as tie
 
@@ -55,7 +56,7 @@ returns-4 c =
     let d = e .before .before .before in
     let s = d .before .before in
     let p = field-point (s .args .s .now) (s .args .from) (d .read-digits .result .end) (d .read-digits .ensures .0 .0) (d .read-digits .ensures .1 .0) (sym (r .before .before .before .if2 .left) ∙ e .is-end .ensures) (e .before .if1 .left) (r .before .if3 .left) in (
-      ap (λ (v : ℕ). joined (Value v) (Value (c .before .whole .given .0 .0))) (d .read-digits .ensures .0 .1) ∙ ap (joined (Value _)) (sym (c .before .whole .given .1) ∙ r .read-decimals .ensures .0) ∙ sym (p .0),
+      ap (λ (v : ℕ). joined (some v) (some (c .before .whole .given .0 .0))) (d .read-digits .ensures .0 .1) ∙ ap (joined (some _)) (sym (told-some _ (decimals (fieldAt (s .args .s .now) (d .read-digits .result .end + 1))) (r .read-decimals .ensures .0) (c .before .whole .given .1))) ∙ sym (p .0),
       λ m _. r .read-decimals .ensures .1 _ (c .before .whole .given .1) ∙ p .1,
     )
 
@@ -66,7 +67,7 @@ returns-5 c =
     let d = e .before .before .before in
     let s = d .before .before in
     let p = field-point (s .args .s .now) (s .args .from) (d .read-digits .result .end) (d .read-digits .ensures .0 .0) (d .read-digits .ensures .1 .0) (sym (r .before .before .before .if2 .left) ∙ e .is-end .ensures) (e .before .if1 .left) (r .before .if3 .left) in
-    (ap (joined (Value _)) (sym (c .enum-told .given .1) ∙ r .read-decimals .ensures .0) ∙ sym (p .0), λ m e. no-magnitude e)
+    (ap (joined (some _)) (sym (told-none _ (decimals (fieldAt (s .args .s .now) (d .read-digits .result .end + 1))) (r .read-decimals .ensures .0) (c .enum-told .given .1))) ∙ sym (p .0), λ m e. no-magnitude e)
 
 pub read-magnitude-spec : {M : Type 1} → statement M
 read-magnitude-spec =

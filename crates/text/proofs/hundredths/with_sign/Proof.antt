@@ -5,10 +5,10 @@ use borrow.Author.Needs.{needs}
 use lib.IntN.{+ℤ-idl}
 use mir.Facts.{toZ-pos, toZ-ofZ}
 use mir.Syntax.{w32}
-use Rattle.text.specs.Hundredths.{signed, Small}
+use Rattle.text.specs.Hundredths.{signed, hundredthsAt, Small}
 use Rattle.text.specs.declared.hundredths.Magnitude.the-variants.{Unreadable}
 use Rattle.text.specs.declared.hundredths.Hundredths.the-variants.{Value, Malformed}
-use Prim.Native.Nat.{_<_}
+use Prim.Native.Nat.{ℕ, _<_}
 use Rattle.text.proofs.Signed.{neg-fits, pos-fits}
 use Rattle.text.proofs.hundredths.with_sign.Statement.{statement}
 use Rattle.text.proofs.hundredths.with_sign.Tie as tie
@@ -16,11 +16,11 @@ use Rattle.text.proofs.hundredths.with_sign.Tie as tie
 enum-known-m : tie.Need-enum-known-m
 enum-known-m c = search needs
 
-cast-t6 : tie.Need-cast-t6
-cast-t6 c = pos-fits _ (subst Small (c .before .before .m .given .1) (c .before .before .before .before .pre))
+cast-t7 : tie.Need-cast-t7
+cast-t7 c = pos-fits _ (subst Small (c .before .before .m .given .1) (c .before .before .before .before .pre))
 
-sub-t7 : tie.Need-sub-t7
-sub-t7 c =
+sub-t8 : tie.Need-sub-t8
+sub-t8 c =
     let k = c .before .before .m .given .0 .0 in
     let h : k < 1000000 = subst Small (c .before .before .m .given .1) (c .before .before .before .before .pre) in
     rw (toZ-pos w32 {n = k} (omega arith), +ℤ-idl) (neg-fits k h)
@@ -31,8 +31,8 @@ returns c =
     let h : k < 1000000 = subst Small (c .before .before .m .given .1) (c .before .before .before .before .pre) in
     rw (c .before .before .m .given .1, c .if1 .taken, toZ-pos w32 {n = k} (omega arith), +ℤ-idl) (ap Value (toZ-ofZ (neg-fits k h)))
 
-cast-t8 : tie.Need-cast-t8
-cast-t8 c = pos-fits _ (subst Small (c .before .before .m .given .1) (c .before .before .before .before .pre))
+cast-t9 : tie.Need-cast-t9
+cast-t9 c = pos-fits _ (subst Small (c .before .before .m .given .1) (c .before .before .before .before .pre))
 
 enum-told : tie.Need-enum-told
 enum-told c = search needs
@@ -46,10 +46,10 @@ returns-2 c =
 returns-3 : tie.Need-returns-3
 returns-3 c = rw (c .enum-told .given .1) (go (c .before .before .args .minus))
   where
-    go : (t : Bool) → Malformed ≡ signed t Unreadable
+    go : (t : Bool) {p : ℕ} → Malformed p ≡ hundredthsAt p (signed t Unreadable)
     go true = refl
     go false = refl
 
 pub with-sign-spec : {M : Type 1} → statement M
 with-sign-spec =
-    tie.close (tie.spec enum-known-m cast-t6 sub-t7 returns cast-t8 enum-told returns-2 returns-3)
+    tie.close (tie.spec enum-known-m cast-t7 sub-t8 returns cast-t9 enum-told returns-2 returns-3)
