@@ -165,7 +165,11 @@ some-digits i (suc n) q h = omega arith
 pub no-whole : {A : Type 0} {p v : ℕ} → Malformed p ≡ Value v → A
 no-whole e = let z : _≡_ {A = ℕ} 0 1 = cc in absurd (omega arith)
 
--- the answer tells what was read
+pub no-magnitude : {A : Type 0} {m : ℕ} → Unreadable ≡ Size m → A
+no-magnitude e = let z : _≡_ {A = ℕ} 0 1 = cc in absurd (omega arith)
+
+-- ---- an answer tells what was read
+
 pub told-some : (at : ℕ) (o : Option ℕ) {w : Whole} {v : ℕ} → w ≡ wholeAt at o → w ≡ Value v → o ≡ some v
 told-some at (some u) e q = ap some cc
 told-some at none e q = no-whole (sym e ∙ q)
@@ -173,9 +177,6 @@ told-some at none e q = no-whole (sym e ∙ q)
 pub told-none : (at : ℕ) (o : Option ℕ) {w : Whole} {p : ℕ} → w ≡ wholeAt at o → w ≡ Malformed p → o ≡ none
 told-none at (some u) e q = no-whole (sym q ∙ e)
 told-none at none e q = refl
-
-pub no-magnitude : {A : Type 0} {m : ℕ} → Unreadable ≡ Size m → A
-no-magnitude e = let z : _≡_ {A = ℕ} 0 1 = cc in absurd (omega arith)
 
 -- ---- a field as the digits after a point
 
