@@ -3,6 +3,7 @@ use Prim.Native.Nat.{ℕ, zero, suc, _+_, _-_, _*_, _≤_, _<_}
 use mathlib.Core.Path.{_≡_, refl, sym, _∙_}
 use mathlib.Core.Bool.{Bool, true, false, cond, _&&_}
 use mathlib.Core.List.{List, [], _∷_}
+use mathlib.Core.Option.{Option, none}
 use native.Mathlib.Omega.{arith}
 use lib.Arith.{lt-of-le-ne}
 use borrow.Author.Tests.{le-leb, lt-leb, le-ltb, lt-ltb, eq-eqb, ne-eqb, eqb-false}
@@ -10,14 +11,12 @@ use lib.Dec.{ltb, leb, eqb}
 use lib.ListN.{length, getD, take, drop}
 use Rattle.text.specs.Scan.{until, before}
 use Rattle.text.specs.Whole.{isDigit, digitsOnto, readWhole}
-use Rattle.text.specs.declared.whole.Whole.{Whole}
-use Rattle.text.specs.declared.whole.Whole.the-variants.{Malformed}
 use Rattle.frame.specs.Frame.{refusedFrame, stray, upTo99, withStation, stationOf, stationAt, Station, readInner}
 
 -- ---- a station has at most two digits
 
 -- no number is none
-malformed : (t : Bool) (w : Whole) → upTo99 w ≡ 0 → upTo99 (cond t w Malformed) ≡ 0
+malformed : (t : Bool) (w : Option ℕ) → upTo99 w ≡ 0 → upTo99 (cond t w none) ≡ 0
 malformed true w e = e
 malformed false w e = refl
 
@@ -47,11 +46,11 @@ unfolding stationOf readWhole
 empty = refl
 
 -- a text that does not start with a digit is no number
-unread : (a : ℕ) (ds : List ℕ) → isDigit a ≡ false → readWhole (a ∷ ds) ≡ Malformed
+unread : (a : ℕ) (ds : List ℕ) → isDigit a ≡ false → readWhole (a ∷ ds) ≡ none
 unfolding readWhole digitsOnto
 unread a ds e = rw e (same (leb 1 (suc (length ds)) && leb (suc (length ds)) 4))
   where
-    same : (t : Bool) → cond t Malformed Malformed ≡ Malformed
+    same : (t : Bool) → _≡_ {A = Option ℕ} (cond t none none) none
     same true = refl
     same false = refl
 
@@ -73,7 +72,7 @@ onto :
     (a : ℕ) (ds : List ℕ) →
     49 ≤ a →
     a ≤ 57 →
-    stationOf (a ∷ ds) ≡ upTo99 (cond (leb (suc (length ds)) 4) (digitsOnto (a - 48) ds) Malformed)
+    stationOf (a ∷ ds) ≡ upTo99 (cond (leb (suc (length ds)) 4) (digitsOnto (a - 48) ds) none)
 unfolding stationOf readWhole digitsOnto
 onto a ds h k =
     let e : 0 * 10 + (a - 48) ≡ a - 48 = omega arith in
@@ -87,8 +86,8 @@ either : (t : Bool) {v : ℕ} → v ≡ 0 → cond t 0 v ≡ 0
 either true e = refl
 either false e = e
 
-none : {t : List ℕ} → stationAt t ≡ 0 → Station t 0
-none e = record { value-is = sym e; one-digit = λ h k. absurd (omega arith); two-digits = λ h. absurd (omega arith) }
+no-station : {t : List ℕ} → stationAt t ≡ 0 → Station t 0
+no-station e = record { value-is = sym e; one-digit = λ h k. absurd (omega arith); two-digits = λ h. absurd (omega arith) }
 
 -- SP follows at e
 ended : (t : List ℕ) (e : ℕ) → before 32 t ≡ e → (e ≡ length t → ⊥) → stationAt t ≡ stationOf (take e t)
@@ -114,10 +113,10 @@ first-none a t p = either (eqb (before 32 (a ∷ t)) (length (a ∷ t))) (part (
 
 module _ (a b c : ℕ) (t : List ℕ) where
   pub first-low : a < 49 → Station (a ∷ b ∷ c ∷ t) 0
-  first-low h = none (first-none a (b ∷ c ∷ t) (λ ds. low a ds h))
+  first-low h = no-station (first-none a (b ∷ c ∷ t) (λ ds. low a ds h))
 
   pub first-high : 57 < a → Station (a ∷ b ∷ c ∷ t) 0
-  first-high h = none (first-none a (b ∷ c ∷ t) (λ ds. high a ds h))
+  first-high h = no-station (first-none a (b ∷ c ∷ t) (λ ds. high a ds h))
 
   module _ (h : 49 ≤ a) (k : a ≤ 57) where
     pub one-digit : b ≡ 32 → Station (a ∷ b ∷ c ∷ t) (a - 48)
@@ -139,7 +138,7 @@ module _ (a b c : ℕ) (t : List ℕ) where
         let w = malformed (leb (suc (length ds)) 4) (digitsOnto (a - 48) ds) (rw e) in
         let v : stationOf (a ∷ ds) ≡ 0 = onto a ds h k ∙ w in
         let p : ℕ = suc (suc u) in
-        none (rw (ne-eqb a 32 (λ q. omega arith), ne-eqb b 32 n) (either (eqb p (suc (suc (suc (length t))))) v))
+        no-station (rw (ne-eqb a 32 (λ q. omega arith), ne-eqb b 32 n) (either (eqb p (suc (suc (suc (length t))))) v))
 
     pub third-bad : (b ≡ 32 → ⊥) → (c ≡ 32 → ⊥) → Station (a ∷ b ∷ c ∷ t) 0
     unfolding until
@@ -150,7 +149,7 @@ module _ (a b c : ℕ) (t : List ℕ) where
         let w = malformed (leb (suc (length ds)) 4) (digitsOnto (a - 48) ds) more in
         let v : stationOf (a ∷ ds) ≡ 0 = onto a ds h k ∙ w in
         let p : ℕ = suc (suc (suc u)) in
-        none
+        no-station
         (rw
         (ne-eqb a 32 (λ q. omega arith), ne-eqb b 32 n, ne-eqb c 32 m)
         (either (eqb p (suc (suc (suc (length t))))) v))

@@ -3,13 +3,12 @@ use Prim.Native.Nat.{ℕ, _+_, _-_, _≤_, _<_}
 use mathlib.Core.Path.{_≡_}
 use mathlib.Core.Bool.{Bool, cond, not, _||_}
 use mathlib.Core.List.{List, [], _∷_, _++_}
+use mathlib.Core.Option.{Option, none, some}
 use lib.ListN.{length, getD, take, drop}
 use lib.Seq.{slice}
 use lib.Dec.{ltb, eqb}
 use Rattle.text.specs.Scan.{until, before}
 use Rattle.text.specs.Whole.{readWhole, shortest}
-use Rattle.text.specs.declared.whole.Whole.{Whole}
-use Rattle.text.specs.declared.whole.Whole.the-variants.{Value, Malformed}
 use Rattle.frame.specs.Checksum.{lrcOf}
 
 -- what the frame reader hands back
@@ -37,9 +36,9 @@ abbrev pub stray : List ℕ → ℕ
 stray = until isStray
 
 -- a number from 1 to 99, or 0
-abbrev pub upTo99 : Whole → ℕ
-upTo99 (Value v) = cond (ltb 99 v) 0 v
-upTo99 Malformed = 0
+abbrev pub upTo99 : Option ℕ → ℕ
+upTo99 (some v) = cond (ltb 99 v) 0 v
+upTo99 none = 0
 
 -- the station that a text is: decimal, 1 to 99, with no leading zero; 0 where it is none
 unfoldable pub stationOf : List ℕ → ℕ
