@@ -13,7 +13,7 @@ use Rattle.text.specs.Scan.{until}
 use Rattle.text.proofs.Laws.{here, over, xor-append}
 use Rattle.text.specs.Put.{xorOnto}
 use Rattle.frame.specs.Checksum.{lrcOf}
-use Rattle.frame.specs.Frame.{refusedFrame, stray, readInner, readFrame}
+use Rattle.frame.specs.Frame.{refusedFrame, stray, inner, readInner, readFrame}
 use Rattle.frame.proofs.Laws.{part-is}
 
 -- ---- the LRC
@@ -37,10 +37,10 @@ lrc-snoc s b = xor-append 0 s (b ∷ [])
 -- where checks 2 to 4 are passed, ETX is the last byte of what is summed
 module _ (s : List ℕ) (low : 6 ≤ length s) (high : length s ≤ 255) (start : getD s 0 0 ≡ 2)
     (end : getD s (length s - 2) 0 ≡ 3) where
-  summed : lrcOf (slice 1 (length s - 1) s) ≡ bitXor (lrcOf (slice 1 (length s - 2) s)) 3
-  summed = ap lrcOf cut ∙ lrc-snoc (slice 1 (length s - 2) s) 3
+  summed : lrcOf (slice 1 (length s - 1) s) ≡ bitXor (lrcOf (inner s)) 3
+  summed = ap lrcOf cut ∙ lrc-snoc (inner s) 3
     where
-      cut : slice 1 (length s - 1) s ≡ slice 1 (length s - 2) s ++ (3 ∷ [])
+      cut : slice 1 (length s - 1) s ≡ inner s ++ (3 ∷ [])
       cut =
           let n : length s - 1 - 1 ≡ suc (length s - 2 - 1) = omega arith in
           let k : 1 + (length s - 2 - 1) ≡ length s - 2 = omega arith in
@@ -56,9 +56,8 @@ module _ (s : List ℕ) (low : 6 ≤ length s) (high : length s ≤ 255) (start 
 
   -- checks 5 to 7 are left
   pub past-end :
-      let inner : List ℕ = slice 1 (length s - 2) s in
-      let sound : Bool = eqb (getD s (length s - 1) 0) (bitXor (lrcOf inner) 3) in
-      readFrame s ≡ cond (not sound) (refusedFrame 5) (readInner inner)
+      let sound : Bool = eqb (getD s (length s - 1) 0) (bitXor (lrcOf (inner s)) 3) in
+      readFrame s ≡ cond (not sound) (refusedFrame 5) (readInner (inner s))
   unfolding readFrame
   past-end =
       rw (

@@ -1,8 +1,10 @@
 -- The fields of a body (document 01, "The frame"): parted by one SP (20h) each.
-use Prim.Native.Nat.{ℕ}
-use mathlib.Core.Bool.{cond}
+use Prim.Native.Nat.{ℕ, suc}
+use mathlib.Core.Bool.{Bool, cond}
 use mathlib.Core.List.{List, [], _∷_}
+use mathlib.Core.Option.{Option, none, some}
 use lib.Dec.{eqb}
+use lib.ListN.{length, drop}
 
 -- the bytes before the first SP
 unfoldable pub first : List ℕ → List ℕ
@@ -17,3 +19,41 @@ more (b ∷ bs) = cond (eqb b 32) (first bs ∷ more bs) (more bs)
 -- the fields of a body
 unfoldable pub fields : List ℕ → List (List ℕ)
 fields s = first s ∷ more s
+
+-- a field and the position of its first byte; an empty field stands at the byte that ends it
+pub record Placed : Type 0 where
+  pub position : ℕ
+  pub text : List ℕ
+
+-- the fields after the first SP of a text that stands at a position
+unfoldable pub placedMore : ℕ → List ℕ → List Placed
+placedMore at [] = []
+placedMore at (b ∷ bs) =
+    cond (eqb b 32)
+    (record { position = suc at; text = first bs } ∷ placedMore (suc at) bs)
+    (placedMore (suc at) bs)
+
+-- the fields of a text that stands at a position
+unfoldable pub placed : ℕ → List ℕ → List Placed
+placed at s = record { position = at; text = first s } ∷ placedMore at s
+
+-- ---- which field offends (document 02, E9)
+
+-- where the first field stands that fails its test, of those that have one
+abbrev pub firstFailing : List (List ℕ → Bool) → List Placed → Option ℕ
+firstFailing [] fs = none
+firstFailing (t ∷ ts) [] = none
+firstFailing (t ∷ ts) (f ∷ fs) = cond (t (f .text)) (firstFailing ts fs) (some (f .position))
+
+-- where the first of these fields stands; ETX where there is none
+abbrev pub startOf : ℕ → List Placed → ℕ
+startOf etx [] = etx
+startOf etx (f ∷ fs) = f .position
+
+abbrev pub orElse : Option ℕ → ℕ → ℕ
+orElse (some p) q = p
+orElse none q = q
+
+-- the first field that fails its test; if none does, the first surplus field, or ETX where fields lack
+unfoldable pub offending : ℕ → List (List ℕ → Bool) → List Placed → ℕ
+offending etx ts fs = orElse (firstFailing ts fs) (startOf etx (drop (length ts) fs))

@@ -1,5 +1,5 @@
 -- Frames, read and written (document 01, "The frame" and refusals 2 to 7).
-use Prim.Native.Nat.{ℕ, _+_, _-_, _≤_, _<_}
+use Prim.Native.Nat.{ℕ, suc, _+_, _-_, _≤_, _<_}
 use mathlib.Core.Path.{_≡_}
 use mathlib.Core.Bool.{Bool, cond, not, _||_}
 use mathlib.Core.List.{List, [], _∷_, _++_}
@@ -65,6 +65,10 @@ readInner t =
     (cond (eqb (before 32 t) (length t)) (refusedFrame 7)
     (withStation (stationOf (take (before 32 t) t)) (drop (before 32 t + 1) t)))
 
+-- what stands between STX and ETX
+abbrev pub inner : List ℕ → List ℕ
+inner s = slice 1 (length s - 2) s
+
 -- 2 LENGTH, 3 START, 4 END, 5 LRC, and then what stands between STX and ETX
 unfoldable pub readFrame : List ℕ → Reading
 readFrame s =
@@ -72,7 +76,12 @@ readFrame s =
     (cond (not (eqb (getD s 0 0) 2)) (refusedFrame 3)
     (cond (not (eqb (getD s (length s - 2) 0) 3)) (refusedFrame 4)
     (cond (not (eqb (getD s (length s - 1) 0) (lrcOf (slice 1 (length s - 1) s)))) (refusedFrame 5)
-    (readInner (slice 1 (length s - 2) s)))))
+    (readInner (inner s)))))
+
+-- document 02, E9: where a slice is wrong that reading a frame refuses with n: at the first stray byte for 6, at the
+-- station for 7; 0 for any other number
+unfoldable pub framePosition : List ℕ → ℕ → ℕ
+framePosition s n = cond (eqb n 6) (suc (stray (inner s))) (cond (eqb n 7) 1 0)
 
 -- STX, the station, SP
 unfoldable pub opening : ℕ → List ℕ

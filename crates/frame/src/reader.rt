@@ -3,11 +3,12 @@ use crate::ETX;
 use crate::STX;
 ghost use mathlib.Core.Path.{_≡_};
 ghost use mathlib.Core.Bool.{false};
-ghost use Prim.Native.Nat.{_≤_};
+ghost use mathlib.Core.List.{List};
+ghost use Prim.Native.Nat.{ℕ, _≤_};
 ghost use lib.ListN.{length};
 ghost use lib.Dec.{ltb};
 ghost use Rattle.frame.specs.Checksum.{lrcOf};
-ghost use Rattle.frame.specs.Frame.{stray, Station, readInner, readFrame, Read};
+ghost use Rattle.frame.specs.Frame.{stray, Station, readInner, readFrame, framePosition, Read};
 
 // What `lrc_and_stray` finds in a text.
 pub struct Scanned {
@@ -31,6 +32,25 @@ fn lrc_and_stray(s: &[u8]) -> Scanned
         i += 1;
     }
     Scanned { sum, stray }
+}
+
+// The index of the first byte of s outside 20h..7Eh; s's length where there is none.
+fn find_stray(s: &[u8]) -> usize
+    ensures { λ r. ⌜ r ≡ stray (now (s .entry)) ⌝ }
+    ensures { λ r. ⌜ r ≤ length (now (s .entry)) ⌝ }
+{
+    let mut i = 0;
+    while i < s.len() {
+        let b = s[i];
+        if b < 32 {
+            return i;
+        }
+        if 126 < b {
+            return i;
+        }
+        i += 1;
+    }
+    i
 }
 
 // The station that stands before the first SP, of one or two digits; 0 where none does.
@@ -61,15 +81,23 @@ fn read_station(inner: &[u8]) -> u8
     (first - b'0') * 10 + (second - b'0')
 }
 
-// Check 7, of what stands between STX and ETX, where no byte is stray.
-fn read_inner<'a>(inner: &'a [u8], number: &mut u8, station: &mut u8) -> &'a [u8]
+// Check 7, of what stands between STX and ETX, where no byte is stray. The position is the same in any slice.
+fn read_inner<'a>(
+    inner: &'a [u8],
+    number: &mut u8,
+    station: &mut u8,
+    position: &mut usize,
+) -> &'a [u8]
     requires { ⌜ (3 ≤ length (now inner)) × (ltb (stray (now inner)) (length (now inner)) ≡ false) ⌝ }
+    requires { ⌜ now position ≡ 0 ⌝ }
     ensures { λ r. ⌜ Read (readInner (now (inner .entry))) (now (number .exit)) (now (station .exit)) (now r) ⌝ }
+    ensures { λ r. ⌜ ((s : List ℕ) → now (position .exit) ≡ framePosition s (now (number .exit))) ⌝ }
 {
     let value = read_station(inner);
     *station = value;
     if value == 0 {
         *number = 7;
+        *position = 1;
         return &inner[..0];
     }
     *number = 0;
@@ -80,11 +108,19 @@ fn read_inner<'a>(inner: &'a [u8], number: &mut u8, station: &mut u8) -> &'a [u8
 }
 
 // Reads a frame. Accepted: number 0, its station, and its body as a part of the slice. Refused: the number
-// of the first check that fails, station 0 and an empty part.
-pub fn read_frame<'a>(slice: &'a [u8], number: &mut u8, station: &mut u8) -> &'a [u8]
+// of the first check that fails, station 0 and an empty part. The position in the slice is that of the first
+// stray byte for 6, 1 for 7, and 0 for every other number.
+pub fn read_frame<'a>(
+    slice: &'a [u8],
+    number: &mut u8,
+    station: &mut u8,
+    position: &mut usize,
+) -> &'a [u8]
     ensures { λ r. ⌜ Read (readFrame (now (slice .entry))) (now (number .exit)) (now (station .exit)) (now r) ⌝ }
+    ensures { λ r. ⌜ now (position .exit) ≡ framePosition (now (slice .entry)) (now (number .exit)) ⌝ }
 {
     *station = 0;
+    *position = 0;
     if slice.len() < 6 {
         *number = 2;
         return &slice[..0];
@@ -110,7 +146,8 @@ pub fn read_frame<'a>(slice: &'a [u8], number: &mut u8, station: &mut u8) -> &'a
     }
     if scanned.stray {
         *number = 6;
+        *position = find_stray(&slice[1..etx]) + 1;
         return &slice[..0];
     }
-    read_inner(&slice[1..etx], number, station)
+    read_inner(&slice[1..etx], number, station, position)
 }

@@ -3,6 +3,7 @@ use mathlib.Core.Path.{refl, sym, _∙_}
 use native.Mathlib.Omega.{arith}
 use borrow.Author.Needs.{needs}
 use Rattle.text.proofs.Laws.{rest}
+use Rattle.frame.specs.Frame.{framePosition}
 use Rattle.frame.proofs.Laws.{answers}
 use Rattle.frame.proofs.Station.{inner-none, inner-some}
 use Rattle.frame.proofs.reader.read_inner.Statement.{statement}
@@ -15,13 +16,13 @@ slice-aggregate-result : tie.Need-slice-aggregate-result
 slice-aggregate-result c = search needs
 
 returns : tie.Need-returns
+unfolding framePosition
 returns c =
     let a = c .before .before .before .before in
     let r = c .before .before .read-station in
     let z = c .before .if1 .taken in
-    rw
-    (inner-none (a .args .inner .now) (a .pre .1) (sym (r .ensures .value-is) ∙ z))
-    (record { number-is = refl; station-is = z; body-is = refl })
+    let read = inner-none (a .args .inner .now) (a .pre .0 .1) (sym (r .ensures .value-is) ∙ z) in
+    (rw read (record { number-is = refl; station-is = z; body-is = refl }), λ s. refl)
 
 sub-result : tie.Need-sub-result
 sub-result c = search needs
@@ -33,12 +34,14 @@ part-result-end : tie.Need-part-result-end
 part-result-end c = search needs
 
 returns-2 : tie.Need-returns-2
+unfolding framePosition
 returns-2 c =
     let a = c .before .before .before .before .before in
     let r = c .before .before .before .read-station in
     let n = c .before .before .if1 .left in
     let e = r .ensures .one-digit (omega arith) (omega arith) in
-    rw (inner-some (a .args .inner .now) (a .pre .1) (r .result) 1 (r .ensures .value-is) n e, rest) answers
+    let read = inner-some (a .args .inner .now) (a .pre .0 .1) (r .result) 1 (r .ensures .value-is) n e in
+    (rw (read, rest) answers, λ s. a .pre .1)
 
 sub-result-2 : tie.Need-sub-result-2
 sub-result-2 c = search needs
@@ -50,12 +53,14 @@ part-result-end-2 : tie.Need-part-result-end-2
 part-result-end-2 c = search needs
 
 returns-3 : tie.Need-returns-3
+unfolding framePosition
 returns-3 c =
     let a = c .before .before .before .before .before in
     let r = c .before .before .before .read-station in
     let n = c .before .before .if1 .left in
     let e = r .ensures .two-digits (omega arith) in
-    rw (inner-some (a .args .inner .now) (a .pre .1) (r .result) 2 (r .ensures .value-is) n e, rest) answers
+    let read = inner-some (a .args .inner .now) (a .pre .0 .1) (r .result) 2 (r .ensures .value-is) n e in
+    (rw (read, rest) answers, λ s. a .pre .1)
 
 pub read-inner-spec : {M : Type 1} → statement M
 read-inner-spec =
