@@ -3,3 +3,4 @@ pub mod Pass
 pub mod Station
 pub mod Writing
 pub mod Reading
+pub mod Placed

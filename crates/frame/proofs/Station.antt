@@ -41,7 +41,7 @@ two-more n d e ds h =
     let m : ℕ = n * 10 + (d - 48) in
     malformed (isDigit d) (digitsOnto m (e ∷ ds)) (one-more m e ds (omega arith))
 
-empty : stationOf [] ≡ 0
+pub empty : stationOf [] ≡ 0
 unfolding stationOf readWhole
 empty = refl
 
