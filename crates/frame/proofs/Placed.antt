@@ -4,7 +4,7 @@ use mathlib.Core.Path.{_≡_, refl, sym, ap, subst, _∙_}
 use mathlib.Core.Bool.{Bool, true, false, cond, not, _||_}
 use mathlib.Core.List.{List, [], _∷_, map}
 use mathlib.Core.Logic.{_⊎_, inl, inr}
-use mathlib.Core.Option.{Option, some}
+use mathlib.Core.Option.{Option, some, Option·getD}
 use native.Mathlib.Omega.{arith}
 use borrow.Author.Tests.{ltb-true, ltb-false, eqb-true, eqb-false}
 use lib.Arith.{lt-of-le-ne}
@@ -14,7 +14,7 @@ use lib.Seq.{slice, length-take-le, drop-drop, getD-drop, getD-take}
 use Rattle.text.specs.Scan.{until, before, endAt, fieldAt}
 use Rattle.text.proofs.Fields.{until-within}
 use Rattle.frame.specs.Checksum.{lrcOf}
-use Rattle.frame.specs.Fields.{first, more, fields, Placed, placedMore, placed, firstFailing, startOf, orElse, offending}
+use Rattle.frame.specs.Fields.{first, more, fields, Placed, placedMore, placed, firstFailing, startOf, offending}
 use Rattle.frame.specs.Frame.{Reading, refusedFrame, isStray, stray, stationOf, withStation, inner, readInner, readFrame, framePosition}
 use Rattle.frame.proofs.Laws.{first-is, more-none}
 use Rattle.frame.proofs.Station.{empty}
@@ -85,7 +85,7 @@ module _ (s : List ℕ) (p : ℕ) (h : p ≤ length s) where
 
 -- ---- the field that offends
 
-or-else : (t : Bool) (o : Option ℕ) (p q : ℕ) → orElse (cond t o (some p)) q ≡ cond t (orElse o q) p
+or-else : (t : Bool) (o : Option ℕ) (p q : ℕ) → Option·getD (cond t o (some p)) q ≡ cond t (Option·getD o q) p
 or-else true o p q = refl
 or-else false o p q = refl
 

@@ -2,7 +2,7 @@
 use Prim.Native.Nat.{ℕ, suc}
 use mathlib.Core.Bool.{Bool, cond}
 use mathlib.Core.List.{List, [], _∷_}
-use mathlib.Core.Option.{Option, none, some}
+use mathlib.Core.Option.{Option, none, some, Option·getD}
 use lib.Dec.{eqb}
 use lib.ListN.{length, drop}
 
@@ -50,10 +50,6 @@ abbrev pub startOf : ℕ → List Placed → ℕ
 startOf etx [] = etx
 startOf etx (f ∷ fs) = f .position
 
-abbrev pub orElse : Option ℕ → ℕ → ℕ
-orElse (some p) q = p
-orElse none q = q
-
 -- the first field that fails its test; if none does, the first surplus field, or ETX where fields lack
 unfoldable pub offending : ℕ → List (List ℕ → Bool) → List Placed → ℕ
-offending etx ts fs = orElse (firstFailing ts fs) (startOf etx (drop (length ts) fs))
+offending etx ts fs = Option·getD (firstFailing ts fs) (startOf etx (drop (length ts) fs))
