@@ -157,6 +157,7 @@ more-behind p (b ∷ bs) = go (eqb b 32) refl (every-map step (placedMore (suc p
         ((omega arith, (omega arith, rw z (eqb-true b 32 e))), a)
     go false e a = a
 
+-- all of them: not before its start, and not after its end
 pub placed-within : (p : ℕ) (s : List ℕ) → Every (λ q. (p ≤ q) × (q ≤ p + length s)) (placed p s)
 unfolding placed
 placed-within p s = (omega arith, every-map (λ q h. omega arith) (placedMore p s) (more-behind p s))
@@ -246,13 +247,13 @@ accepted t e =
     let a = past (ltb (stray t) (length t)) 6 _ (λ z. omega arith) e in
     let b = past (eqb (before 32 t) (length t)) 7 _ (λ z. omega arith) (a .1) in
     let c = past (eqb v 0) 7 _ (λ z. omega arith) (b .1) in (
-      some (before 32 t) (c .0),
+      one (before 32 t) (c .0),
       (lt-of-le-ne (until-within (λ n. eqb n 32) t) (eqb-false (before 32 t) (length t) (b .0)), rw (a .0, b .0, c .0)),
     )
   where
-    some : (n : ℕ) → eqb (stationOf (take n t)) 0 ≡ false → 1 ≤ n
-    some zero z = absurd (eqb-false (stationOf []) 0 z empty)
-    some (suc n) z = omega arith
+    one : (n : ℕ) → eqb (stationOf (take n t)) 0 ≡ false → 1 ≤ n
+    one zero z = absurd (eqb-false (stationOf []) 0 z empty)
+    one (suc n) z = omega arith
 
 -- the index of its first byte
 abbrev pub bodyStart : List ℕ → ℕ
