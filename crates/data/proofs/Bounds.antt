@@ -1,8 +1,9 @@
 -- What being in range says of numbers and data.
 use Prim.Native.Nat.{ℕ, zero, suc, _+_, _≤_, _<_}
-use mathlib.Core.Path.{_≡_, refl}
+use mathlib.Core.Path.{_≡_, refl, sym, ap, _∙_}
 use mathlib.Core.Bool.{Bool, true, false, cond, not, _&&_, _||_}
 use mathlib.Core.List.{List, [], _∷_}
+use mathlib.Core.Option.{Option, none, some}
 use native.Mathlib.Omega.{arith}
 use native.Mathlib.Nat.{suc-add}
 use borrow.Author.Tests.{le-ltb, ltb-false, not-true}
@@ -15,7 +16,9 @@ use Rattle.commands.specs.declared.command.Kind.the-variants as kind
 use Rattle.commands.specs.declared.command.Rule.{Rule}
 use Rattle.commands.specs.declared.request.Row.{Row}
 use Rattle.commands.specs.Request.{one}
+use Rattle.data.specs.declared.field.Field.{Field}
 use Rattle.data.specs.declared.field.Field.the-variants as field
+use Rattle.data.specs.Data.{valueAt}
 use Rattle.data.specs.Ranges.{countOf, limitsOf, inRange, eachInRange, allInRange, judge}
 
 pub and-left : (s t : Bool) → s && t ≡ true → s ≡ true
@@ -28,10 +31,18 @@ and-right true t e = e
 and-right false true e = refl
 and-right false false e = e
 
--- ---- a malformed field is no value
+-- ---- what a field was read as, by the answer for it
 
-pub no-value : {A : Type 0} {v : ℤ} → field.Malformed ≡ field.Value v → A
+pub no-value : {A : Type 0} {p : ℕ} {v : ℤ} → field.Malformed p ≡ field.Value v → A
 no-value e = let z : _≡_ {A = ℕ} 0 1 = cc in absurd (omega arith)
+
+pub told-some : (at : ℕ) (o : Option ℤ) {f : Field} {v : ℤ} → f ≡ valueAt at o → f ≡ field.Value v → o ≡ some v
+told-some at (some u) e q = ap some cc
+told-some at none e q = no-value (sym e ∙ q)
+
+pub told-none : (at : ℕ) (o : Option ℤ) {f : Field} {p : ℕ} → f ≡ valueAt at o → f ≡ field.Malformed p → (o ≡ none) × (p ≡ at)
+told-none at (some u) e q = no-value (sym q ∙ e)
+told-none at none e q = (refl, cc)
 
 -- ---- a value in its kind's range
 

@@ -4,14 +4,13 @@ use Prim.Native.Nat.{ℕ, suc, _+_, _*_, _≤_, _<_}
 use mathlib.Core.Path.{_≡_, refl, sym, ap, ap₂}
 use mathlib.Core.Bool.{Bool, true, false}
 use mathlib.Core.List.{List, [], _∷_, _++_, map, append-nil}
-use mathlib.Core.Option.{some}
+use mathlib.Core.Option.{some, Option·map}
 use native.Mathlib.Omega.{arith}
 use lib.Dec.{eqb}
 use lib.IntN.{ℤ, pos, natAbs}
 use lib.ListN.{length, length-append}
 use Rattle.text.specs.Whole.{readWhole, shortest}
-use Rattle.text.specs.declared.whole.Whole.the-variants as whole
-use Rattle.text.specs.Hundredths.{hundredthsText}
+use Rattle.text.specs.Hundredths.{readHundredths, hundredthsText}
 use Rattle.text.proofs.Laws.{Skips, skips-append, skips-cons}
 use Rattle.text.proofs.Digits.{shortest-skips, padded-skips, shortest-some, shortest-short, padded-length, read-shortest, read-padded}
 use Rattle.text.proofs.Decimals.{text-some, text-short, hundredths-skips, read-hundredths}
@@ -23,10 +22,8 @@ use Rattle.commands.specs.declared.command.Kind.{Kind}
 use Rattle.commands.specs.declared.command.Kind.the-variants as kind
 use Rattle.commands.specs.declared.request.Row.{Row}
 use Rattle.commands.specs.Request.{rowOf}
-use Rattle.data.specs.declared.field.Field.the-variants as field
-use Rattle.data.specs.declared.data.Values.the-variants.{Of}
 use Rattle.data.specs.Ranges.{countOf, valuesOf, limitsOf, inRange, eachInRange, allInRange}
-use Rattle.data.specs.Data.{asHundredths, readHundredthsField, readWholeField, readField, digitsOf, fieldText, withFirst, readFields, asValues, readData, following, spaced, dataText}
+use Rattle.data.specs.Data.{readWholeField, readField, digitsOf, fieldText, withFirst, readFields, readData, following, spaced, dataText}
 use Rattle.data.proofs.Bounds.{in-digits, in-nat, in-small, some-value, head-in, tail-in}
 
 -- ---- one field
@@ -54,18 +51,18 @@ field-solid = field-skips (λ b. eqb b 32) digit-solid refl refl
 pub shortest-solid : (v : ℕ) → Skips (λ b. eqb b 32) (shortest v)
 shortest-solid = shortest-skips (λ b. eqb b 32) digit-solid
 
-hundredths-back : (k : Kind) (v : ℤ) → inRange k v ≡ true → readHundredthsField (hundredthsText v) ≡ field.Value v
-hundredths-back k v e = ap asHundredths (read-hundredths v (in-small k v e))
+hundredths-back : (k : Kind) (v : ℤ) → inRange k v ≡ true → readHundredths (hundredthsText v) ≡ some v
+hundredths-back k v e = read-hundredths v (in-small k v e)
 
 -- a whole number, in either form
-whole-back : (k : Kind) (s : List ℕ) (v : ℤ) → limitsOf k .low ≡ pos 0 → inRange k v ≡ true → (digitsOf v < 10000 → readWhole s ≡ whole.Value (digitsOf v)) → readWholeField s ≡ field.Value v
+whole-back : (k : Kind) (s : List ℕ) (v : ℤ) → limitsOf k .low ≡ pos 0 → inRange k v ≡ true → (digitsOf v < 10000 → readWhole s ≡ some (digitsOf v)) → readWholeField s ≡ some v
 whole-back k s v low e read =
     let h = in-digits k v low e in
     let d : digitsOf v ≡ natAbs v = omega arith in
-    rw (read (omega arith), d) (ap field.Value (sym (in-nat k v low e)))
+    rw (read (omega arith), d) (ap some (sym (in-nat k v low e)))
 
 -- a value in range reads back
-field-back : (k : Kind) (v : ℤ) → inRange k v ≡ true → readField k (fieldText k v) ≡ field.Value v
+field-back : (k : Kind) (v : ℤ) → inRange k v ≡ true → readField k (fieldText k v) ≡ some v
 field-back kind.Timer v e = hundredths-back kind.Timer v e
 field-back kind.Register v e = whole-back kind.Register _ v refl e (read-padded (digitsOf v))
 field-back kind.Row v e = hundredths-back kind.Row v e
@@ -138,10 +135,10 @@ abbrev pub kept : Kind → Row → Row
 kept k r = rowOf (valuesOf k r)
 
 -- data in range read back
-pub data-back : (k : Kind) (r : Row) → allInRange k r ≡ true → readData k (fields (dataText k r)) ≡ Of (kept k r)
+pub data-back : (k : Kind) (r : Row) → allInRange k r ≡ true → readData k (fields (dataText k r)) ≡ some (kept k r)
 unfolding dataText allInRange
 data-back k r e = go (valuesOf k r) (count-values k r) (some-value k .1) e
   where
-    go : (vs : List ℤ) → length vs ≡ countOf k → countOf k ≡ suc (some-value k .0) → eachInRange k vs ≡ true → readData k (fields (spaced (map (fieldText k) vs))) ≡ Of (rowOf vs)
+    go : (vs : List ℤ) → length vs ≡ countOf k → countOf k ≡ suc (some-value k .0) → eachInRange k vs ≡ true → readData k (fields (spaced (map (fieldText k) vs))) ≡ some (rowOf vs)
     go [] n p e = absurd (omega arith)
-    go (v ∷ vs) n p e = rw (fields-spaced k v vs, ← n) (ap asValues (values-back k (v ∷ vs) e))
+    go (v ∷ vs) n p e = rw (fields-spaced k v vs, ← n) (ap (Option·map rowOf) (values-back k (v ∷ vs) e))

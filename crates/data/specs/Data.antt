@@ -1,14 +1,13 @@
 -- Data as text (document 01, "Commands"; for rows document 02, E6): as many fields as values, parted by one SP each.
 use Prim.Native.Nat.{ℕ, zero, suc, _%_}
+use mathlib.Core.Bool.{Bool, true, false}
 use mathlib.Core.List.{List, [], _∷_, _++_, map}
-use mathlib.Core.Option.{Option, none, some}
+use mathlib.Core.Option.{Option, none, some, Option·map}
 use lib.IntN.{ℤ, pos, natAbs}
+use lib.ListN.{length, drop, replicate}
 use Rattle.text.specs.Whole.{readWhole, shortest, padded}
 use Rattle.text.specs.Hundredths.{readHundredths, hundredthsText}
-use Rattle.text.specs.declared.whole.Whole.{Whole}
-use Rattle.text.specs.declared.whole.Whole.the-variants as whole
-use Rattle.text.specs.declared.hundredths.Hundredths.{Hundredths}
-use Rattle.text.specs.declared.hundredths.Hundredths.the-variants as hundredths
+use Rattle.frame.specs.Fields.{fields, placed, offending}
 use Rattle.commands.specs.declared.command.Kind.{Kind}
 use Rattle.commands.specs.declared.command.Kind.the-variants as kind
 use Rattle.commands.specs.declared.request.Row.{Row}
@@ -17,31 +16,25 @@ use Rattle.data.specs.declared.field.Field.{Field}
 use Rattle.data.specs.declared.field.Field.the-variants as field
 use Rattle.data.specs.declared.data.Values.{Values}
 use Rattle.data.specs.declared.data.Values.the-variants.{Of, Malformed}
-use Rattle.data.specs.Ranges.{countOf, valuesOf}
+use Rattle.data.specs.Ranges.{countOf, valuesOf, inRange}
 
 -- ---- one field
 
-abbrev pub asHundredths : Hundredths → Field
-asHundredths (hundredths.Value v) = field.Value v
-asHundredths hundredths.Malformed = field.Malformed
+abbrev pub readWholeField : List ℕ → Option ℤ
+readWholeField s = Option·map pos (readWhole s)
 
-abbrev pub asWhole : Whole → Field
-asWhole (whole.Value v) = field.Value (pos v)
-asWhole whole.Malformed = field.Malformed
-
-abbrev pub readHundredthsField : List ℕ → Field
-readHundredthsField s = asHundredths (readHundredths s)
-
-abbrev pub readWholeField : List ℕ → Field
-readWholeField s = asWhole (readWhole s)
-
--- timers and rows are hundredths, all else are whole numbers
-abbrev pub readField : Kind → List ℕ → Field
-readField kind.Timer = readHundredthsField
-readField kind.Row = readHundredthsField
+-- timers and rows are hundredths, all else are whole numbers; none for a text in another form
+abbrev pub readField : Kind → List ℕ → Option ℤ
+readField kind.Timer = readHundredths
+readField kind.Row = readHundredths
 readField kind.Register = readWholeField
 readField kind.Signal = readWholeField
 readField kind.Port = readWholeField
+
+-- the reader's answer for a field that stands at a position
+abbrev pub valueAt : ℕ → Option ℤ → Field
+valueAt at (some v) = field.Value v
+valueAt at none = field.Malformed at
 
 -- the digits of a whole value, which has at most 4
 abbrev pub digitsOf : ℤ → ℕ
@@ -57,10 +50,10 @@ fieldText kind.Port v = shortest (digitsOf v)
 
 -- ---- reading
 
-abbrev pub withFirst : Field → Option (List ℤ) → Option (List ℤ)
-withFirst (field.Value v) (some vs) = some (v ∷ vs)
-withFirst (field.Value v) none = none
-withFirst field.Malformed vs = none
+abbrev pub withFirst : Option ℤ → Option (List ℤ) → Option (List ℤ)
+withFirst (some v) (some vs) = some (v ∷ vs)
+withFirst (some v) none = none
+withFirst none vs = none
 
 -- as many fields as values: no fewer and no more, and none malformed
 unfoldable pub readFields : Kind → ℕ → List (List ℕ) → Option (List ℤ)
@@ -69,13 +62,31 @@ readFields k zero (f ∷ fs) = none
 readFields k (suc n) [] = none
 readFields k (suc n) (f ∷ fs) = withFirst (readField k f) (readFields k n fs)
 
-abbrev pub asValues : Option (List ℤ) → Values
-asValues (some vs) = Of (rowOf vs)
-asValues none = Malformed
-
 -- the fields as data of a kind
-abbrev pub readData : Kind → List (List ℕ) → Values
-readData k fs = asValues (readFields k (countOf k) fs)
+abbrev pub readData : Kind → List (List ℕ) → Option Row
+readData k fs = Option·map rowOf (readFields k (countOf k) fs)
+
+-- ---- where data are wrong (document 02, E9)
+
+-- what was read passes a test
+abbrev pub readsAs : {A : Type 0} → (A → Bool) → Option A → Bool
+readsAs test (some v) = test v
+readsAs test none = false
+
+-- a test for each field of data: that it is in its form, and that its value is in range
+abbrev pub dataForms : Kind → List (List ℕ → Bool)
+dataForms k = replicate (countOf k) (λ f. readsAs (λ v. true) (readField k f))
+
+abbrev pub dataRanges : Kind → List (List ℕ → Bool)
+dataRanges k = replicate (countOf k) (λ f. readsAs (inRange k) (readField k f))
+
+abbrev pub valuesAt : ℕ → Option Row → Values
+valuesAt at (some r) = Of r
+valuesAt at none = Malformed at
+
+-- the reader's answer for the data that stand at an index of a text, which ETX follows
+abbrev pub dataAt : Kind → List ℕ → ℕ → Values
+dataAt k s i = valuesAt (offending (length s) (dataForms k) (placed i (drop i s))) (readData k (fields (drop i s)))
 
 -- ---- writing
 

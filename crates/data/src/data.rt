@@ -13,38 +13,43 @@ ghost use mathlib.Core.Path.{_≡_};
 ghost use Prim.Native.Nat.{_≤_, _+_};
 ghost use lib.ListN.{length};
 ghost use Rattle.text.specs.Put.{Put};
-ghost use Rattle.frame.specs.Fields.{fields};
-ghost use Rattle.data.specs.Data.{readData, dataText};
+ghost use Rattle.data.specs.Data.{dataAt, dataText};
 
-// What fields are as data.
+// What fields are as data; where they are not, with the position where they are wrong.
 pub enum Values {
     Of(Row),
-    Malformed,
+    Malformed(usize),
 }
 
-// Reads the fields of s as data of a kind.
-pub fn read_data(kind: Kind, s: &[u8]) -> Values
-    ensures { λ r. ⌜ r ≡ readData kind (fields (now (s .entry))) ⌝ }
+// Reads the fields of s from index `from` on as data of a kind. Not data: at the first malformed field; if all are in
+// their form, at the first surplus field, or at the end of s where fields lack.
+pub fn read_data(kind: Kind, s: &[u8], from: usize) -> Values
+    requires { ⌜ from ≤ length (now s) ⌝ }
+    ensures { λ r. ⌜ r ≡ dataAt kind (now (s .entry)) from ⌝ }
 {
     let count = count_of(kind);
     let mut values = [0; 4];
-    let mut from = 0;
+    let mut next = from;
     let mut i = 0;
     while i < count {
-        if s.len() < from {
-            return Values::Malformed;
+        if s.len() < next {
+            return Values::Malformed(s.len());
         }
-        let read = read_field(kind, s, from);
+        let read = read_field(kind, s, next);
         let field = read.field;
-        let Field::Value(v) = field else {
-            return Values::Malformed;
-        };
-        values[i] = v;
-        from = read.end + 1;
-        i += 1;
+        match field {
+            Field::Value(v) => {
+                values[i] = v;
+                next = read.end + 1;
+                i += 1;
+            }
+            Field::Malformed(position) => {
+                return Values::Malformed(position);
+            }
+        }
     }
-    if from <= s.len() {
-        return Values::Malformed;
+    if next <= s.len() {
+        return Values::Malformed(next);
     }
     Values::Of(row_of(values))
 }

@@ -16,12 +16,13 @@ ghost use lib.ListN.{length};
 ghost use Rattle.text.specs.Put.{Put};
 ghost use Rattle.text.specs.Scan.{fieldAt, endAt};
 ghost use Rattle.data.specs.declared.field.Field.the-variants.{Value};
-ghost use Rattle.data.specs.Data.{readHundredthsField, readWholeField, readField, digitsOf, fieldText};
+ghost use Rattle.text.specs.Hundredths.{readHundredths};
+ghost use Rattle.data.specs.Data.{readWholeField, readField, valueAt, digitsOf, fieldText};
 
-// What a field is as a value.
+// What a field is as a value; a malformed one, with the position where it stands.
 pub enum Field {
     Value(i32),
-    Malformed,
+    Malformed(usize),
 }
 
 // That, and where the field ends. The end of a malformed one is not looked for.
@@ -32,7 +33,7 @@ pub struct ValueField {
 
 fn hundredths_field(s: &[u8], from: usize) -> ValueField
     requires { ⌜ from ≤ length (now s) ⌝ }
-    ensures { λ r. ⌜ r .field ≡ readHundredthsField (fieldAt (now (s .entry)) from) ⌝ }
+    ensures { λ r. ⌜ r .field ≡ valueAt from (readHundredths (fieldAt (now (s .entry)) from)) ⌝ }
     ensures { λ r. ⌜ ((v : ℤ) → r .field ≡ Value v → r .end ≡ endAt (now (s .entry)) from) ⌝ }
 {
     let read = read_hundredths(s, from);
@@ -43,8 +44,8 @@ fn hundredths_field(s: &[u8], from: usize) -> ValueField
             field: Field::Value(v),
             end,
         },
-        Hundredths::Malformed => ValueField {
-            field: Field::Malformed,
+        Hundredths::Malformed(position) => ValueField {
+            field: Field::Malformed(position),
             end,
         },
     }
@@ -52,7 +53,7 @@ fn hundredths_field(s: &[u8], from: usize) -> ValueField
 
 fn whole_field(s: &[u8], from: usize) -> ValueField
     requires { ⌜ from ≤ length (now s) ⌝ }
-    ensures { λ r. ⌜ r .field ≡ readWholeField (fieldAt (now (s .entry)) from) ⌝ }
+    ensures { λ r. ⌜ r .field ≡ valueAt from (readWholeField (fieldAt (now (s .entry)) from)) ⌝ }
     ensures { λ r. ⌜ ((v : ℤ) → r .field ≡ Value v → r .end ≡ endAt (now (s .entry)) from) ⌝ }
 {
     let read = read_whole(s, from);
@@ -63,8 +64,8 @@ fn whole_field(s: &[u8], from: usize) -> ValueField
             field: Field::Value(v as i32),
             end,
         },
-        Whole::Malformed => ValueField {
-            field: Field::Malformed,
+        Whole::Malformed(position) => ValueField {
+            field: Field::Malformed(position),
             end,
         },
     }
@@ -73,7 +74,7 @@ fn whole_field(s: &[u8], from: usize) -> ValueField
 // Reads the field at `from` as a value of a kind.
 pub fn read_field(kind: Kind, s: &[u8], from: usize) -> ValueField
     requires { ⌜ from ≤ length (now s) ⌝ }
-    ensures { λ r. ⌜ r .field ≡ readField kind (fieldAt (now (s .entry)) from) ⌝ }
+    ensures { λ r. ⌜ r .field ≡ valueAt from (readField kind (fieldAt (now (s .entry)) from)) ⌝ }
     ensures { λ r. ⌜ ((v : ℤ) → r .field ≡ Value v → r .end ≡ endAt (now (s .entry)) from) ⌝ }
 {
     match kind {

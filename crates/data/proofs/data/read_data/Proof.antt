@@ -1,9 +1,9 @@
 -- The invariant: the fields that are left, read into the array as it is now from value i on, give what all of them give.
 use Prim.Native.Nat.{ℕ, zero, suc, _+_, _-_, _≤_, _<_}
 use mathlib.Core.Path.{_≡_, refl, sym, ap, _∙_}
-use mathlib.Core.Bool.{cond}
-use mathlib.Core.List.{List, [], _∷_}
-use mathlib.Core.Option.{Option, none, some}
+use mathlib.Core.Bool.{Bool, true, cond}
+use mathlib.Core.List.{List, [], _∷_, map}
+use mathlib.Core.Option.{Option, none, some, Option·map}
 use native.Mathlib.Omega.{arith}
 use native.Mathlib.Decide.{ℕ-discrete}
 use native.Mathlib.Numerals.{add-one}
@@ -13,32 +13,31 @@ use borrow.Author.Needs.{needs}
 use lib.Arith.{lt-of-le-ne}
 use lib.Dec.{ltb, eqb}
 use lib.IntN.{ℤ, pos}
-use lib.ListN.{length, set, drop, length-drop}
-use lib.Seq.{sets, drop-drop}
-use Rattle.text.specs.Scan.{before, fieldAt, endAt}
+use lib.ListN.{length, set, drop, replicate, length-drop}
+use lib.Seq.{sets}
+use Rattle.text.specs.Scan.{fieldAt, endAt}
 use Rattle.text.proofs.Fields.{until-within}
 use Rattle.text.proofs.Signed.{i32-back}
-use Rattle.frame.specs.Fields.{fields}
-use Rattle.frame.proofs.Laws.{fields-only, fields-next}
+use Rattle.frame.specs.Fields.{fields, Placed, placed, offending}
+use Rattle.frame.proofs.Placed.{placed-texts, placed-only, placed-next, offending-none, offending-lack, offending-next}
 use Rattle.commands.specs.declared.command.Kind.{Kind}
+use Rattle.commands.specs.declared.request.Row.{Row}
 use Rattle.commands.specs.Request.{rowOf}
-use Rattle.data.specs.declared.field.Field.{Field}
-use Rattle.data.specs.declared.field.Field.the-variants as field
 use Rattle.data.specs.declared.data.Values.{Values}
 use Rattle.data.specs.declared.data.Values.the-variants.{Of, Malformed}
 use Rattle.data.specs.Ranges.{countOf}
-use Rattle.data.specs.Data.{readField, withFirst, readFields, asValues, readData}
-use Rattle.data.proofs.Bounds.{few-values}
+use Rattle.data.specs.Data.{readField, withFirst, readFields, readsAs, valuesAt, dataAt}
+use Rattle.data.proofs.Bounds.{few-values, told-some, told-none}
 use Rattle.data.proofs.data.read_data.Statement.{statement}
 use Rattle.data.proofs.data.read_data.Tie as tie
 
 -- ---- the fields that are left where the next one starts at p: none past the end
 
-left : List ℕ → ℕ → List (List ℕ)
-left s p = cond (ltb (length s) p) [] (fields (drop p s))
+left : List ℕ → ℕ → List Placed
+left s p = cond (ltb (length s) p) [] (placed p (drop p s))
 
 module _ (s : List ℕ) (p : ℕ) where
-  some-left : p ≤ length s → left s p ≡ fields (drop p s)
+  some-left : p ≤ length s → left s p ≡ placed p (drop p s)
   unfolding left
   some-left h = rw (le-ltb (length s) p h)
 
@@ -47,23 +46,20 @@ module _ (s : List ℕ) (p : ℕ) where
   none-left h = rw (lt-ltb (length s) p h)
 
 -- the next field, and those behind it
-next-left : (s : List ℕ) (p : ℕ) → p ≤ length s → left s p ≡ fieldAt s p ∷ left s (endAt s p + 1)
-next-left s p h = some-left s p h ∙ go (ℕ-discrete (endAt s p) (length s)) (until-within (λ b. eqb b 32) (drop p s))
+next-left : (s : List ℕ) (p : ℕ) → p ≤ length s → left s p ≡ record { position = p; text = fieldAt s p } ∷ left s (endAt s p + 1)
+next-left s p h = some-left s p h ∙ go (ℕ-discrete (endAt s p) (length s))
   where
-    go : Dec (endAt s p ≡ length s) → before 32 (drop p s) ≤ length (drop p s) → fields (drop p s) ≡ fieldAt s p ∷ left s (endAt s p + 1)
-    go (yes z) w = fields-only (drop p s) (before 32 (drop p s)) (omega arith) (omega (arith, length-drop p s))
-        ∙ ap (λ t. fieldAt s p ∷ t) (sym (none-left s (endAt s p + 1) (omega arith)))
-    go (no n) w =
-        let l : endAt s p < length s = lt-of-le-ne (omega (arith, length-drop p s)) n in
-        let m : p + (before 32 (drop p s) + 1) ≡ endAt s p + 1 = omega arith in
-        fields-next (drop p s) (before 32 (drop p s)) (omega arith) (λ z. n (omega (arith, z, length-drop p s)))
-        ∙ ap (λ t. fieldAt s p ∷ t) (rw (drop-drop (before 32 (drop p s) + 1) p s, m) (sym (some-left s (endAt s p + 1) (omega arith))))
+    go : Dec (endAt s p ≡ length s) → placed p (drop p s) ≡ record { position = p; text = fieldAt s p } ∷ left s (endAt s p + 1)
+    go (yes z) = placed-only s p h z ∙ rw (none-left s (endAt s p + 1) (omega arith))
+    go (no n) =
+        let l : endAt s p < length s = lt-of-le-ne (omega (arith, length-drop p s, until-within (λ b. eqb b 32) (drop p s))) n in
+        placed-next s p h n ∙ rw (some-left s (endAt s p + 1) (omega arith))
 
 -- ---- values read into an array from index i on
 
-filled : List ℤ → ℕ → Option (List ℤ) → Values
-filled xs i (some vs) = Of (rowOf (sets xs i vs))
-filled xs i none = Malformed
+filled : List ℤ → ℕ → Option (List ℤ) → Option Row
+filled xs i (some vs) = some (rowOf (sets xs i vs))
+filled xs i none = none
 
 -- an index past the end sets nothing
 set-past : (xs : List ℤ) (i : ℕ) (v : ℤ) → length xs ≤ i → set xs i v ≡ xs
@@ -85,89 +81,118 @@ row-filled (x ∷ y ∷ []) = refl
 row-filled (x ∷ y ∷ z ∷ []) = refl
 row-filled (x ∷ y ∷ z ∷ w ∷ vs) = rw (sets-past (x ∷ y ∷ z ∷ w ∷ []) 4 vs (omega arith))
 
-all-filled : (o : Option (List ℤ)) → asValues o ≡ filled zeros 0 o
+all-filled : (o : Option (List ℤ)) → Option·map rowOf o ≡ filled zeros 0 o
 unfolding filled
-all-filled (some vs) = ap Of (row-filled vs)
+all-filled (some vs) = ap some (row-filled vs)
 all-filled none = refl
 
-one-filled : (xs : List ℤ) (i : ℕ) (v : ℤ) (o : Option (List ℤ)) → filled xs i (withFirst (field.Value v) o) ≡ filled (set xs i v) (i + 1) o
+one-filled : (xs : List ℤ) (i : ℕ) (v : ℤ) (o : Option (List ℤ)) → filled xs i (withFirst (some v) o) ≡ filled (set xs i v) (i + 1) o
 unfolding filled
 one-filled xs i v (some vs) = rw (add-one i)
 one-filled xs i v none = refl
 
+-- ---- the answer for m values that are still to be read, into xs from index i on
+
+module _ (etx : ℕ) (k : Kind) where
+  form : List ℕ → Bool
+  form f = readsAs (λ v. true) (readField k f)
+
+  answer : List ℤ → ℕ → ℕ → List Placed → Values
+  answer xs i m fs = valuesAt (offending etx (replicate m form) fs) (filled xs i (readFields k m (map (λ f. f .text) fs)))
+
+  module _ (xs : List ℤ) (i : ℕ) where
+    lack : (m : ℕ) → answer xs i (suc m) [] ≡ Malformed etx
+    unfolding answer readFields filled
+    lack m = rw (offending-lack etx form (replicate m form))
+
+    surplus : (f : Placed) (fs : List Placed) → answer xs i zero (f ∷ fs) ≡ Malformed (f .position)
+    unfolding answer readFields filled
+    surplus f fs = rw (offending-none etx (f ∷ fs))
+
+    complete : answer xs i zero [] ≡ Of (rowOf xs)
+    unfolding answer readFields filled
+    complete = refl
+
+    module _ (m : ℕ) (f : Placed) (fs : List Placed) where
+      malformed : readField k (f .text) ≡ none → answer xs i (suc m) (f ∷ fs) ≡ Malformed (f .position)
+      unfolding answer readFields filled form
+      malformed e = rw (offending-next etx form (replicate m form) f fs, e)
+
+      valued : {v : ℤ} → readField k (f .text) ≡ some v → answer xs i (suc m) (f ∷ fs) ≡ answer (set xs i v) (i + 1) m fs
+      unfolding answer readFields form
+      valued {v} e = rw (offending-next etx form (replicate m form) f fs, e, one-filled xs i v)
+
 -- ---- the loop
 
 -- of n values i are read into xs, and the next field starts at p
-record Begun (k : Kind) (s : List ℕ) (n : ℕ) (xs : List ℤ) (i p : ℕ) : Type 0 where
+record Begun (k : Kind) (s : List ℕ) (from n : ℕ) (xs : List ℤ) (i p : ℕ) : Type 0 where
   most : i ≤ n
-  rest : readData k (fields s) ≡ filled xs i (readFields k (n - i) (left s p))
+  rest : dataAt k s from ≡ answer (length s) k xs i (n - i) (left s p)
 
 abbrev Inv-loop : tie.InvT-loop
-Inv-loop kind s count values₀ from₀ i₀ values from i = Begun kind s count values i from
+Inv-loop kind s from count values₀ next₀ i₀ values next i = Begun kind s from count values i next
 
 abbrev μ-loop : tie.MeasureT-loop
-μ-loop kind s count values₀ from₀ i₀ values from i = count - i
+μ-loop kind s from count values₀ next₀ i₀ values next i = count - i
 
-module _ {k : Kind} {s : List ℕ} {n : ℕ} {xs : List ℤ} {i p : ℕ} (h : Begun k s n xs i p) where
-  lacking : i < n → length s < p → Malformed ≡ readData k (fields s)
-  unfolding readFields filled
-  lacking l m =
-      let e : n - i ≡ suc (n - (i + 1)) = omega arith in
-      sym (h .rest ∙ rw (e, none-left s p m))
+module _ {k : Kind} {s : List ℕ} {from n : ℕ} {xs : List ℤ} {i p : ℕ} (h : Begun k s from n xs i p) where
+  -- the next field
+  next : Placed
+  next = record { position = p; text = fieldAt s p }
 
-  -- the next field is f
-  next : i < n → p ≤ length s → (f : Field) → f ≡ readField k (fieldAt s p) → readData k (fields s) ≡ filled xs i (withFirst f (readFields k (n - (i + 1)) (left s (endAt s p + 1))))
-  unfolding readFields
-  next l m f t =
-      let d : n - i ≡ suc (n - (i + 1)) = omega arith in
-      h .rest ∙ rw (d, next-left s p m, t)
+  module _ (l : i < n) where
+    again : dataAt k s from ≡ answer (length s) k xs i (suc (n - (i + 1))) (left s p)
+    again = let e : n - i ≡ suc (n - (i + 1)) = omega arith in h .rest ∙ rw e
 
-  surplus : n ≤ i → p ≤ length s → Malformed ≡ readData k (fields s)
-  unfolding readFields filled fields
-  surplus l m =
-      let e : n - i ≡ 0 = omega arith in
-      sym (h .rest ∙ rw (e, some-left s p m))
+    lacking : length s < p → Malformed (length s) ≡ dataAt k s from
+    lacking m = sym (again ∙ rw (none-left s p m) (lack (length s) k xs i (n - (i + 1))))
 
-  whole : n ≤ i → length s < p → Of (rowOf xs) ≡ readData k (fields s)
-  unfolding readFields filled
-  whole l m =
-      let e : n - i ≡ 0 = omega arith in
-      sym (h .rest ∙ rw (e, none-left s p m))
+    module _ (m : p ≤ length s) where
+      unread : readField k (fieldAt s p) ≡ none → Malformed p ≡ dataAt k s from
+      unfolding next
+      unread e = sym (again ∙ rw (next-left s p m) (malformed (length s) k xs i (n - (i + 1)) next (left s (endAt s p + 1)) e))
+
+      read : {v : ℤ} → readField k (fieldAt s p) ≡ some v → dataAt k s from ≡ answer (length s) k (set xs i v) (i + 1) (n - (i + 1)) (left s (endAt s p + 1))
+      unfolding next
+      read e = again ∙ rw (next-left s p m) (valued (length s) k xs i (n - (i + 1)) next (left s (endAt s p + 1)) e)
+
+  module _ (l : n ≤ i) where
+    done : dataAt k s from ≡ answer (length s) k xs i 0 (left s p)
+    done = let e : n - i ≡ 0 = omega arith in h .rest ∙ rw e
+
+    too-many : p ≤ length s → Malformed p ≡ dataAt k s from
+    unfolding next
+    too-many m = sym (done ∙ rw (next-left s p m) (surplus (length s) k xs i next (left s (endAt s p + 1))))
+
+    all-read : length s < p → Of (rowOf xs) ≡ dataAt k s from
+    all-read m = sym (done ∙ rw (none-left s p m) (complete (length s) k xs i))
 
 loop-holds : tie.Need-loop-holds Inv-loop μ-loop
+unfolding answer form
 loop-holds c =
     let s = c .before .before in
+    let a = s .args in
     record {
       most = omega arith;
       rest =
-          all-filled (readFields (s .args .kind) (countOf (s .args .kind)) (fields (s .args .s .now)))
-          ∙ rw (sub-zero, c .count-of .ensures, some-left (s .args .s .now) 0 (omega arith));
+          rw (sub-zero, c .count-of .ensures, some-left (a .s .now) (a .from) (s .pre), placed-texts (a .from) (drop (a .from) (a .s .now)), all-filled (readFields (a .kind) (countOf (a .kind)) (fields (drop (a .from) (a .s .now)))));
     }
 
 returns : tie.Need-returns Inv-loop μ-loop
-returns c =
-    let l = c .before .before in
-    lacking (l .loop .inv) (c .before .loop-test .taken) (c .if1 .taken)
-
-returns-2 : tie.Need-returns-2 Inv-loop μ-loop
-unfolding filled
-returns-2 c =
-    let f = c .before .before in
-    let l = f .before .before .before in
-    sym (next (l .loop .inv) (f .before .before .loop-test .taken) (f .before .if1 .left) field.Malformed (sym (c .enum-told .given .1) ∙ f .read-field .ensures .0))
+returns c = lacking (c .before .before .loop .inv) (c .before .loop-test .taken) (c .if1 .taken)
 
 array-set-from-values : tie.Need-array-set-from-values Inv-loop μ-loop
 array-set-from-values c =
     let n = c .before .before .before .before .before .before .before in
     omega (arith, n .count-of .ensures, few-values (n .before .before .args .kind))
 
-add-from : tie.Need-add-from Inv-loop μ-loop
-add-from c =
+add-next : tie.Need-add-next Inv-loop μ-loop
+add-next c =
     let v = c .before .before in
     let f = v .before .before in
     let l = f .before .before .before in
     let s = l .before .before .before .args .s .now in
-    let e : f .read-field .result .end ≤ length s = omega (arith, f .read-field .ensures .1 _ (v .field .given .1), until-within (λ b. eqb b 32) (drop (l .loop .from) s), length-drop (l .loop .from) s, f .before .if1 .left) in
+    let e : f .read-field .result .end ≤ length s = omega (arith, f .read-field .ensures .1 _ (v .field .given .1), until-within (λ b. eqb b 32) (drop (l .loop .next) s), length-drop (l .loop .next) s, f .before .if1 .left) in
     search needs
 
 loop-again : tie.Need-loop-again Inv-loop μ-loop
@@ -175,22 +200,28 @@ loop-again c =
     let v = c .before .before in
     let f = v .before .before in
     let l = f .before .before .before in
+    let w : readField (l .before .before .before .args .kind) (fieldAt (l .before .before .before .args .s .now) (l .loop .next)) ≡ some (v .field .given .0 .0) = told-some _ _ (f .read-field .ensures .0) (v .field .given .1) in
     record {
       most = omega arith;
       rest =
-          next (l .loop .inv) (f .before .before .loop-test .taken) (f .before .if1 .left) (field.Value (v .field .given .0 .0)) (sym (v .field .given .1) ∙ f .read-field .ensures .0)
-          ∙ rw (i32-back (v .field .given .0 .0) (c .before .known-told .given .0 .1), f .read-field .ensures .1 _ (v .field .given .1)) (one-filled (l .loop .values) (l .loop .i) (v .field .given .0 .0) _);
+          read (l .loop .inv) (f .before .before .loop-test .taken) (f .before .if1 .left) w
+          ∙ rw (i32-back (v .field .given .0 .0) (c .before .known-told .given .0 .1), f .read-field .ensures .1 _ (v .field .given .1));
     }
 
+returns-2 : tie.Need-returns-2 Inv-loop μ-loop
+returns-2 c =
+    let f = c .before .before .before in
+    let l = f .before .before .before in
+    let w = told-none _ _ (f .read-field .ensures .0) (c .before .field2 .given .1) in
+    rw (w .1) (unread (l .loop .inv) (f .before .before .loop-test .taken) (f .before .if1 .left) (w .0))
+
 returns-3 : tie.Need-returns-3 Inv-loop μ-loop
-returns-3 c =
-    let l = c .before .before in
-    surplus (l .loop .inv) (c .before .loop-test .left) (c .if2 .taken)
+returns-3 c = too-many (c .before .before .loop .inv) (c .before .loop-test .left) (c .if2 .taken)
 
 returns-4 : tie.Need-returns-4 Inv-loop μ-loop
 returns-4 c =
     let l = c .before .before .before in
-    rw (c .row-of .ensures) (whole (l .loop .inv) (c .before .before .loop-test .left) (c .before .if2 .left))
+    rw (c .row-of .ensures) (all-read (l .loop .inv) (c .before .before .loop-test .left) (c .before .if2 .left))
 
 pub read-data-spec : {M : Type 1} → statement M
 read-data-spec =
@@ -203,14 +234,14 @@ read-data-spec =
     returns
     (λ c κs. search needs)
     (λ c. search needs)
-    (λ c. search needs)
-    returns-2
     (λ c. omega (arith, array-set-from-values c))
     array-set-from-values
-    add-from
+    add-next
     (λ c. omega arith)
     (λ c. omega arith)
     loop-again
+    (λ c. search needs)
+    returns-2
     returns-3
     (λ c κs. search needs)
     returns-4)
