@@ -2,11 +2,10 @@
 use Prim.Native.Nat.{ℕ}
 use mathlib.Core.Bool.{Bool, true, false, cond}
 use mathlib.Core.List.{List, [], _∷_, _++_}
+use mathlib.Core.Option.{Option, none, some}
 use lib.Dec.{eqb}
 use lib.IntN.{pos}
 use Rattle.text.specs.Whole.{readWhole, shortest}
-use Rattle.text.specs.declared.whole.Whole.{Whole}
-use Rattle.text.specs.declared.whole.Whole.the-variants as whole
 use Rattle.frame.specs.Fields.{fields}
 use Rattle.commands.specs.declared.command.Command.{Command}
 use Rattle.commands.specs.declared.command.Named.{Named}
@@ -15,54 +14,49 @@ use Rattle.commands.specs.declared.command.Kind.{Kind}
 use Rattle.commands.specs.declared.command.Rule.{Rule}
 use Rattle.commands.specs.declared.request.Row.{Row}
 use Rattle.commands.specs.declared.request.Parts.{Parts}
-use Rattle.data.specs.declared.data.Values.{Values}
-use Rattle.data.specs.declared.data.Values.the-variants as values
-use Rattle.bodies.specs.declared.body.Shape.{Shape}
-use Rattle.bodies.specs.declared.body.Shape.the-variants as shape
-use Rattle.bodies.specs.declared.body.Judged.{Judged}
-use Rattle.bodies.specs.declared.body.Judged.the-variants.{Accepted, Refused}
+use Rattle.bodies.specs.Verdict.{Verdict, Accepted, Refused}
 use Rattle.commands.specs.Command.{commandOf, nameOf, ruleOf}
 use Rattle.commands.specs.Request.{one, builds}
 use Rattle.data.specs.Ranges.{judge}
 use Rattle.data.specs.Data.{readData, dataText}
 
 -- the fields after the number: data for an SN, none for an LN
-abbrev pub dataShape : Bool → Kind → List (List ℕ) → Values
+abbrev pub dataShape : Bool → Kind → List (List ℕ) → Option Row
 dataShape true k fs = readData k fs
-dataShape false k [] = values.Of (one (pos 0))
-dataShape false k (f ∷ fs) = values.Malformed
+dataShape false k [] = some (one (pos 0))
+dataShape false k (f ∷ fs) = none
 
-abbrev pub numbered : Whole → Values → Shape
-numbered (whole.Value n) (values.Of r) = shape.Of n r
-numbered (whole.Value n) values.Malformed = shape.Malformed
-numbered whole.Malformed v = shape.Malformed
+abbrev pub numbered : Option ℕ → Option Row → Option (ℕ × Row)
+numbered (some n) (some r) = some (n, r)
+numbered (some n) none = none
+numbered none v = none
 
 -- the fields after the name: the number, then the data
-unfoldable pub readShape : Rule → List (List ℕ) → Shape
-readShape rule [] = shape.Malformed
+unfoldable pub readShape : Rule → List (List ℕ) → Option (ℕ × Row)
+readShape rule [] = none
 readShape rule (n ∷ fs) = numbered (readWhole n) (dataShape (rule .store) (rule .kind) fs)
 
 -- 11 NUMBER, 12 VALUE, or the request
-unfoldable pub requestOrRefusal : Command → ℕ → Row → Judged
+unfoldable pub requestOrRefusal : Command → ℕ → Row → Verdict
 requestOrRefusal c n r =
     cond (eqb (judge (ruleOf c) n r) 0) (Accepted (builds c n r)) (Refused (judge (ruleOf c) n r) (ruleOf c .store))
 
 -- 10 SHAPE, then those
-abbrev pub shaped : Command → Shape → Judged
-shaped c (shape.Of n r) = requestOrRefusal c n r
-shaped c shape.Malformed = Refused 10 (ruleOf c .store)
+abbrev pub shaped : Command → Option (ℕ × Row) → Verdict
+shaped c (some p) = requestOrRefusal c (p .0) (p .1)
+shaped c none = Refused 10 (ruleOf c .store)
 
 -- 9 COMMAND, then those
-abbrev pub afterName : Named → List (List ℕ) → Judged
+abbrev pub afterName : Named → List (List ℕ) → Verdict
 afterName (Is c) fs = shaped c (readShape (ruleOf c) fs)
 afterName Unknown fs = Refused 9 false
 
-abbrev pub ofFields : List (List ℕ) → Judged
+abbrev pub ofFields : List (List ℕ) → Verdict
 ofFields [] = Refused 9 false
 ofFields (name ∷ fs) = afterName (commandOf name) fs
 
 -- a body as a request: checks 9 to 12, in their order
-unfoldable pub readBody : List ℕ → Judged
+unfoldable pub readBody : List ℕ → Verdict
 readBody s = ofFields (fields s)
 
 -- SP and the data, for an SN

@@ -1,2 +1,4 @@
+pub mod Verdict
 pub mod Body
+pub mod Position
 pub mod Reply

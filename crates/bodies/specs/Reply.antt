@@ -2,19 +2,16 @@
 use Prim.Native.Nat.{ℕ}
 use mathlib.Core.Bool.{Bool, true, false, cond, _&&_}
 use mathlib.Core.List.{List, [], _∷_}
+use mathlib.Core.Option.{Option, none, some}
 use lib.Dec.{ltb, eqb}
 use lib.IntN.{ℤ}
 use lib.ListN.{length, getD, drop}
 use Rattle.text.specs.Whole.{readWhole, twoDigits}
-use Rattle.text.specs.declared.whole.Whole.{Whole}
-use Rattle.text.specs.declared.whole.Whole.the-variants as whole
 use Rattle.frame.specs.Fields.{fields}
 use Rattle.commands.specs.declared.command.Kind.{Kind}
 use Rattle.commands.specs.declared.command.Kind.the-variants as kind
 use Rattle.commands.specs.declared.command.Rule.{Rule}
 use Rattle.commands.specs.declared.request.Row.{Row}
-use Rattle.data.specs.declared.data.Values.{Values}
-use Rattle.data.specs.declared.data.Values.the-variants as values
 use Rattle.bodies.specs.declared.reply.Data.{Data}
 use Rattle.bodies.specs.declared.reply.Data.the-variants as held
 use Rattle.bodies.specs.declared.reply.Outcome.{Outcome}
@@ -96,18 +93,18 @@ outcomeText store (outcome.Status n) = statusText store n
 
 -- ---- reading
 
-abbrev pub asStatus : Whole → Carried
-asStatus (whole.Value v) = carried.Outcome (outcome.Status v)
-asStatus whole.Malformed = carried.Nothing
+abbrev pub asStatus : Option ℕ → Carried
+asStatus (some v) = carried.Outcome (outcome.Status v)
+asStatus none = carried.Nothing
 
 -- any two digits
 unfoldable pub readStatus : List ℕ → Carried
 readStatus s = cond (eqb (length s) 2) (asStatus (readWhole s)) carried.Nothing
 
 -- data within the command's data range
-abbrev pub asData : Kind → Values → Carried
-asData k (values.Of r) = cond (allInRange k r) (carried.Outcome (outcome.Data (dataOf k r))) carried.Nothing
-asData k values.Malformed = carried.Nothing
+abbrev pub asData : Kind → Option Row → Carried
+asData k (some r) = cond (allInRange k r) (carried.Outcome (outcome.Data (dataOf k r))) carried.Nothing
+asData k none = carried.Nothing
 
 -- "E" and any two digits, or data
 unfoldable pub readLoadOutcome : Kind → List ℕ → Carried

@@ -20,97 +20,127 @@ use text::whole::put_shortest;
 use text::whole::read_whole;
 ghost use mathlib.Core.Path.{_≡_};
 ghost use Prim.Native.Nat.{_≤_, _+_};
-ghost use lib.ListN.{length};
+ghost use mathlib.Core.Bool.{cond};
+ghost use lib.Dec.{eqb};
+ghost use lib.ListN.{length, drop};
 ghost use Rattle.text.specs.Put.{Put};
-ghost use Rattle.frame.specs.Fields.{fields};
+ghost use Rattle.frame.specs.Fields.{placed};
+ghost use Rattle.frame.specs.Frame.{readFrame};
 ghost use Rattle.commands.specs.Command.{ruleOf};
-ghost use Rattle.bodies.specs.Body.{readShape, requestOrRefusal, readBody, bodyText};
+ghost use Rattle.bodies.specs.Body.{requestOrRefusal, readBody, bodyText};
+ghost use Rattle.bodies.specs.Position.{fieldsPosition, bodyPosition, shapeIn, judgedAt};
 
-// What the fields after a name are: a number and data, or malformed.
+// What the fields after a name are: a number, data, and where the data start. Where they are not, with the position where
+// they are wrong.
 pub enum Shape {
-    Of(u16, Row),
-    Malformed,
+    Of(u16, Row, usize),
+    Malformed(usize),
 }
 
-// What a body is as a request. A refusal carries its number, and whether it answers an SN name, on which
-// the form of its reply depends.
+// What a body is as a request. A refusal carries its number, whether it answers an SN name, on which the form of its
+// reply depends, and the position in the slice where the body is wrong.
 pub enum Judged {
     Accepted(Request),
-    Refused(u8, bool),
+    Refused(u8, bool, usize),
 }
 
-// Reads the fields after the name: s is the body from the number on.
-fn read_shape(rule: Rule, s: &[u8]) -> Shape
-    ensures { λ r. ⌜ r ≡ readShape rule (fields (now (s .entry))) ⌝ }
+// Reads the fields of s from index `from` on, which are those after the name.
+fn read_shape(rule: Rule, s: &[u8], from: usize) -> Shape
+    requires { ⌜ from ≤ length (now s) ⌝ }
+    ensures { λ r. ⌜ r ≡ shapeIn rule (now (s .entry)) from ⌝ }
 {
-    let read = read_whole(s, 0);
+    let read = read_whole(s, from);
     let end = read.end;
     let whole = read.whole;
-    let Whole::Value(n) = whole else {
-        return Shape::Malformed;
-    };
-    if end == s.len() {
-        if rule.store {
-            return Shape::Malformed;
+    match whole {
+        Whole::Value(n) => {
+            if end == s.len() {
+                if rule.store {
+                    return Shape::Malformed(end);
+                }
+                return Shape::Of(
+                    n,
+                    Row {
+                        x: 0,
+                        y: 0,
+                        z: 0,
+                        w: 0,
+                    },
+                    end,
+                );
+            }
+            let start = end + 1;
+            if rule.store {
+                let kind = rule.kind;
+                let values = read_data(kind, s, start);
+                return match values {
+                    Values::Of(row) => Shape::Of(n, row, start),
+                    Values::Malformed(position) => Shape::Malformed(position),
+                };
+            }
+            Shape::Malformed(start)
         }
-        return Shape::Of(
-            n,
-            Row {
-                x: 0,
-                y: 0,
-                z: 0,
-                w: 0,
-            },
-        );
+        Whole::Malformed(position) => Shape::Malformed(position),
     }
-    if rule.store {
-        let from = end + 1;
-        let kind = rule.kind;
-        let values = read_data(kind, &s[from..]);
-        return match values {
-            Values::Of(row) => Shape::Of(n, row),
-            Values::Malformed => Shape::Malformed,
-        };
-    }
-    Shape::Malformed
 }
 
-// Checks 11 and 12 of a command's number and data.
-fn request_or_refusal(command: Command, rule: Rule, n: u16, row: Row) -> Judged
+// Checks 11 and 12 of a command's number and data, which stand at these positions.
+fn request_or_refusal(
+    command: Command,
+    rule: Rule,
+    n: u16,
+    row: Row,
+    number: usize,
+    datum: usize,
+) -> Judged
     requires { ⌜ rule ≡ ruleOf command ⌝ }
-    ensures { λ r. ⌜ r ≡ requestOrRefusal command n row ⌝ }
+    ensures { λ r. ⌜ r ≡ judgedAt (λ m. cond (eqb m 11) number datum) (requestOrRefusal command n row) ⌝ }
 {
-    let number = judge_parts(rule, n, row);
-    if number == 0 {
+    let refusal = judge_parts(rule, n, row);
+    if refusal == 0 {
         return Judged::Accepted(request_of(Parts {
             command,
             number: n,
             values: row,
         }));
     }
-    Judged::Refused(number, rule.store)
+    if refusal == 11 {
+        return Judged::Refused(refusal, rule.store, number);
+    }
+    Judged::Refused(refusal, rule.store, datum)
 }
 
-// Reads the body of a request: checks 9 to 12, in their order.
-pub fn read_body(body: &[u8]) -> Judged
-    ensures { λ r. ⌜ r ≡ readBody (now (body .entry)) ⌝ }
+// Reads the fields of s from index `from` on as a request: checks 9 to 12, in their order.
+fn read_fields(s: &[u8], from: usize) -> Judged
+    requires { ⌜ from ≤ length (now s) ⌝ }
+    ensures { λ r. ⌜ r ≡ judgedAt (fieldsPosition (length (now (s .entry))) (placed from (drop from (now (s .entry))))) (readBody (drop from (now (s .entry)))) ⌝ }
 {
-    let read = read_name(body);
-    let end = read.end;
+    let read = read_name(&s[from..]);
     let name = read.name;
     let Named::Is(command) = name else {
-        return Judged::Refused(9, false);
+        return Judged::Refused(9, false, from);
     };
     let rule = rule_of(command);
-    if end == body.len() {
-        return Judged::Refused(10, rule.store);
+    let end = from + read.end;
+    if end == s.len() {
+        return Judged::Refused(10, rule.store, end);
     }
-    let from = end + 1;
-    let shape = read_shape(rule, &body[from..]);
+    let number = end + 1;
+    let shape = read_shape(rule, s, number);
     match shape {
-        Shape::Of(n, row) => request_or_refusal(command, rule, n, row),
-        Shape::Malformed => Judged::Refused(10, rule.store),
+        Shape::Of(n, row, datum) => request_or_refusal(command, rule, n, row, number, datum),
+        Shape::Malformed(position) => Judged::Refused(10, rule.store, position),
     }
+}
+
+// Reads the body of an accepted frame, which stands before the slice's last two bytes: checks 9 to 12, in their order.
+pub fn read_body(slice: &[u8], body: &[u8]) -> Judged
+    requires { ⌜ (readFrame (now slice) .number ≡ 0) × (now body ≡ readFrame (now slice) .body) ⌝ }
+    ensures { λ r. ⌜ r ≡ judgedAt (bodyPosition (now (slice .entry))) (readBody (readFrame (now (slice .entry)) .body)) ⌝ }
+{
+    let etx = slice.len() - 2;
+    let from = etx - body.len();
+    read_fields(&slice[..etx], from)
 }
 
 // Writes the body of a request.

@@ -214,7 +214,7 @@ fn read_load_outcome(kind: Kind, body: &[u8]) -> Carried
             return read_status(&body[1..]);
         }
     }
-    let values = read_data(kind, body);
+    let values = read_data(kind, body, 0);
     match values {
         Values::Of(row) => {
             if all_in_range(kind, row) {
@@ -222,7 +222,7 @@ fn read_load_outcome(kind: Kind, body: &[u8]) -> Carried
             }
             Carried::Nothing
         }
-        Values::Malformed => Carried::Nothing,
+        Values::Malformed(_) => Carried::Nothing,
     }
 }
 

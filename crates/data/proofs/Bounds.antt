@@ -18,7 +18,9 @@ use Rattle.commands.specs.declared.request.Row.{Row}
 use Rattle.commands.specs.Request.{one}
 use Rattle.data.specs.declared.field.Field.{Field}
 use Rattle.data.specs.declared.field.Field.the-variants as field
-use Rattle.data.specs.Data.{valueAt}
+use Rattle.data.specs.declared.data.Values.{Values}
+use Rattle.data.specs.declared.data.Values.the-variants as values
+use Rattle.data.specs.Data.{valueAt, valuesAt}
 use Rattle.data.specs.Ranges.{countOf, limitsOf, inRange, eachInRange, allInRange, judge}
 
 pub and-left : (s t : Bool) → s && t ≡ true → s ≡ true
@@ -43,6 +45,19 @@ told-some at none e q = no-value (sym e ∙ q)
 pub told-none : (at : ℕ) (o : Option ℤ) {f : Field} {p : ℕ} → f ≡ valueAt at o → f ≡ field.Malformed p → (o ≡ none) × (p ≡ at)
 told-none at (some u) e q = no-value (sym q ∙ e)
 told-none at none e q = (refl, cc)
+
+-- ---- what fields were read as, by the answer for them
+
+no-values : {A : Type 0} {p : ℕ} {r : Row} → values.Malformed p ≡ values.Of r → A
+no-values e = let z : _≡_ {A = ℕ} 0 1 = cc in absurd (omega arith)
+
+pub values-some : (at : ℕ) (o : Option Row) {w : Values} {r : Row} → w ≡ valuesAt at o → w ≡ values.Of r → o ≡ some r
+values-some at (some q) e d = ap some cc
+values-some at none e d = no-values (sym e ∙ d)
+
+pub values-none : (at : ℕ) (o : Option Row) {w : Values} {p : ℕ} → w ≡ valuesAt at o → w ≡ values.Malformed p → (o ≡ none) × (p ≡ at)
+values-none at (some q) e d = no-values (sym d ∙ e)
+values-none at none e d = (refl, cc)
 
 -- ---- a value in its kind's range
 

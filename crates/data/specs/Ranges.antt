@@ -47,8 +47,12 @@ eachInRange k (v ∷ vs) = inRange k v && eachInRange k vs
 unfoldable pub allInRange : Kind → Row → Bool
 allInRange k r = eachInRange k (valuesOf k r)
 
+-- a number outside its command's range
+abbrev pub outside : Rule → ℕ → Bool
+outside rule n = ltb n (rule .first) || ltb (rule .last) n
+
 -- 11 NUMBER, then 12 VALUE; 0 where neither is given. The data of an LN are 0, which every range has
 unfoldable pub judge : Rule → ℕ → Row → ℕ
 judge rule n r =
-    cond (ltb n (rule .first) || ltb (rule .last) n) 11
+    cond (outside rule n) 11
     (cond (allInRange (rule .kind) r) 0 12)

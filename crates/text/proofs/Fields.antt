@@ -174,9 +174,9 @@ pub told-some : (at : ℕ) (o : Option ℕ) {w : Whole} {v : ℕ} → w ≡ whol
 told-some at (some u) e q = ap some cc
 told-some at none e q = no-whole (sym e ∙ q)
 
-pub told-none : (at : ℕ) (o : Option ℕ) {w : Whole} {p : ℕ} → w ≡ wholeAt at o → w ≡ Malformed p → o ≡ none
+pub told-none : (at : ℕ) (o : Option ℕ) {w : Whole} {p : ℕ} → w ≡ wholeAt at o → w ≡ Malformed p → (o ≡ none) × (p ≡ at)
 told-none at (some u) e q = no-whole (sym q ∙ e)
-told-none at none e q = refl
+told-none at none e q = (refl, cc)
 
 -- ---- a field as the digits after a point
 

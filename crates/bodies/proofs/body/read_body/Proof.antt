@@ -1,87 +1,50 @@
--- `name` is where the name was read, `k` its command, `r` the command's rule, and `s` where the fields after it were read.
-use Prim.Native.Nat.{ℕ, _+_}
-use mathlib.Core.Path.{_≡_, sym, ap, _∙_}
-use mathlib.Core.Bool.{false}
+-- The body stands where its length puts it, before ETX.
+use Prim.Native.Nat.{ℕ, _-_, _≤_}
+use mathlib.Core.Path.{_≡_, refl, sym, ap, _∙_}
 use mathlib.Core.List.{List}
 use native.Mathlib.Omega.{arith}
 use borrow.Author.Needs.{needs}
 use lib.ListN.{length, take, drop}
-use Rattle.text.specs.Scan.{before, fieldAt, endAt}
-use Rattle.frame.specs.Fields.{fields}
-use Rattle.text.proofs.Laws.{rest}
-use Rattle.frame.proofs.Laws.{fields-first, fields-only, fields-next}
-use Rattle.commands.specs.declared.command.Command.{Command}
-use Rattle.commands.specs.declared.command.Named.the-variants.{Is, Unknown}
-use Rattle.commands.specs.declared.command.Rule.{Rule}
-use Rattle.bodies.specs.declared.body.Judged.the-variants.{Refused}
-use Rattle.commands.specs.Command.{commandOf, ruleOf}
-use Rattle.bodies.specs.Body.{readShape, shaped, readBody}
+use lib.Seq.{length-take-le}
+use Rattle.frame.specs.Fields.{placed}
+use Rattle.frame.specs.Frame.{readFrame}
+use Rattle.frame.proofs.Placed.{bodyStart, BodyPlace, body-place}
+use Rattle.bodies.specs.declared.body.Judged.{Judged}
+use Rattle.bodies.specs.Body.{readBody}
+use Rattle.bodies.specs.Position.{fieldsPosition, bodyPosition, judgedAt}
 use Rattle.bodies.proofs.body.read_body.Statement.{statement}
 use Rattle.bodies.proofs.body.read_body.Tie as tie
 
-module _ (s : List ℕ) where
-  unknown : commandOf (fieldAt s 0) ≡ Unknown → readBody s ≡ Refused 9 false
-  unfolding readBody
-  unknown w = rw (fields-first s (before 32 s) (omega arith), w)
+-- the part before ETX
+before-etx : (s : List ℕ) → length (take (length s - 2) s) ≡ length s - 2
+before-etx s = length-take-le (length s - 2) s (omega arith)
 
-  module _ {k : Command} {e : ℕ} (w : commandOf (fieldAt s 0) ≡ Is k) (q : e ≡ endAt s 0) where
-    named : commandOf (take e s) ≡ Is k
-    named = let n : e ≡ before 32 s = omega arith in rw n w
+judged-is : (s : List ℕ) → readFrame s .number ≡ 0 → {n : ℕ} → n ≡ length (readFrame s .body) → judgedAt (fieldsPosition (length (take (length s - 2) s)) (placed (length s - 2 - n) (drop (length s - 2 - n) (take (length s - 2) s)))) (readBody (drop (length s - 2 - n) (take (length s - 2) s))) ≡ judgedAt (bodyPosition s) (readBody (readFrame s .body))
+unfolding bodyPosition
+judged-is s e q =
+    let p = body-place s e in
+    rw (q, p .body-is, before-etx s) (ap (λ fs. judgedAt (fieldsPosition (length s - 2) fs) (readBody (readFrame s .body))) (sym (p .fields-are)))
 
-    alone : e ≡ length s → readBody s ≡ Refused 10 (ruleOf k .store)
-    unfolding readBody readShape
-    alone h = rw (fields-only s e q h, named)
+sub-etx : tie.Need-sub-etx
+sub-etx c = let p = body-place _ (c .before .before .pre .0) in omega (arith, p .low)
 
-    followed : (e ≡ length s → ⊥) → readBody s ≡ shaped k (readShape (ruleOf k) (fields (drop (e + 1) s)))
-    unfolding readBody
-    followed h = rw (fields-next s e q h, named)
+sub-from : tie.Need-sub-from
+sub-from c =
+    let p = body-place _ (c .before .before .pre .0) in
+    omega (arith, p .room, ap length (c .before .before .pre .1))
+
+slice-aggregate-read-fields : tie.Need-slice-aggregate-read-fields
+slice-aggregate-read-fields c = sym (before-etx (c .before .before .before .args .slice .now))
+
+read-fields-requires : tie.Need-read-fields-requires
+read-fields-requires c κs = omega (arith, before-etx (c .before .before .before .args .slice .now))
 
 returns : tie.Need-returns
 returns c =
-    let name = c .before .before in
-    sym (unknown (name .before .before .args .body .now) (sym (name .read-name .ensures .0) ∙ c .enum-told .given .1))
-
-returns-2 : tie.Need-returns-2
-returns-2 c =
-    let k = c .before .before .before in
-    let name = k .before .before in
-    rw (alone (name .before .before .args .body .now) (sym (name .read-name .ensures .0) ∙ k .name .given .1) (name .read-name .ensures .1 .0 _ (k .name .given .1)) (c .if1 .taken), ← c .before .rule-of .ensures)
-
-returns-3 : tie.Need-returns-3
-returns-3 c =
     let s = c .before .before .before .before in
-    let r = s .before .before .before in
-    let k = r .before .before in
-    let name = k .before .before in
-    let t = name .before .before .args .body .now in
-    rw (followed t (sym (name .read-name .ensures .0) ∙ k .name .given .1) (name .read-name .ensures .1 .0 _ (k .name .given .1)) (s .before .before .if1 .left), ← r .rule-of .ensures, ← rest (name .read-name .result .end + 1) t, ← s .read-shape .ensures, c .before .before .shape .given .1) (c .request-or-refusal .ensures)
-
-returns-4 : tie.Need-returns-4
-returns-4 c =
-    let s = c .before .before in
-    let r = s .before .before .before in
-    let k = r .before .before in
-    let name = k .before .before in
-    let t = name .before .before .args .body .now in
-    rw (followed t (sym (name .read-name .ensures .0) ∙ k .name .given .1) (name .read-name .ensures .1 .0 _ (k .name .given .1)) (s .before .before .if1 .left), ← r .rule-of .ensures, ← rest (name .read-name .result .end + 1) t, ← s .read-shape .ensures, c .enum-told2 .given .1) (ap (λ (q : Rule). Refused 10 (q .store)) (r .rule-of .ensures))
+    c .read-fields .ensures ∙ judged-is (s .args .slice .now) (s .pre .0) (ap length (s .pre .1))
 
 pub read-body-spec : {M : Type 1} → statement M
 read-body-spec =
     tie.close
-    (tie.spec
-    (λ c κs. search needs)
-    (λ c. search needs)
-    (λ c. search needs)
-    returns
-    (λ c κs. search needs)
-    returns-2
-    (λ c. search needs)
-    (λ c. search needs)
-    (λ c. search needs)
-    (λ c. search needs)
-    (λ c κs. search needs)
-    (λ c. search needs)
-    (λ c κs. search needs)
-    (λ c. search needs)
-    returns-3
-    returns-4)
+    (tie.spec sub-etx sub-from slice-aggregate-read-fields read-fields-requires returns)

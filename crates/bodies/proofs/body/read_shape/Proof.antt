@@ -1,90 +1,150 @@
--- `read` is where the number was read, `n` the number, and `d` where the data were read.
-use Prim.Native.Nat.{ℕ, _+_}
-use mathlib.Core.Path.{_≡_, sym, _∙_}
-use mathlib.Core.List.{List, []}
+-- `read` is where the number was read, `n` the number, `d` where the data were read, and `s` where the function starts.
+use Prim.Native.Nat.{ℕ, _+_, _≤_}
+use mathlib.Core.Path.{_≡_, refl, sym, ap, _∙_}
+use mathlib.Core.Bool.{Bool, true, false, cond}
+use mathlib.Core.List.{List, [], _∷_, map}
+use mathlib.Core.Option.{Option, none, some}
 use native.Mathlib.Omega.{arith}
 use borrow.Author.Needs.{needs}
-use lib.ListN.{length, take, drop}
-use Rattle.text.specs.Scan.{before, fieldAt, endAt}
+use lib.IntN.{pos}
+use lib.ListN.{length, drop}
+use Rattle.text.specs.Scan.{fieldAt, endAt}
 use Rattle.text.specs.Whole.{readWhole}
-use Rattle.text.specs.declared.whole.Whole.the-variants as whole
-use Rattle.frame.specs.Fields.{fields}
-use Rattle.text.proofs.Laws.{rest}
-use Rattle.frame.proofs.Laws.{fields-first, fields-only, fields-next}
-use Rattle.commands.specs.declared.command.Kind.{Kind}
+use Rattle.text.proofs.Fields.{told-some, told-none}
+use Rattle.frame.specs.Fields.{fields, Placed, placedMore, placed, startOf, offending}
+use Rattle.frame.proofs.Laws.{first-is}
+use Rattle.frame.proofs.Placed.{placed-texts, placed-only, placed-next, offending-none, offending-lack, offending-next}
 use Rattle.commands.specs.declared.command.Rule.{Rule}
+use Rattle.commands.specs.declared.request.Row.{Row}
+use Rattle.commands.specs.Request.{one}
+use Rattle.data.specs.declared.data.Values.{Values}
 use Rattle.data.specs.declared.data.Values.the-variants as values
-use Rattle.bodies.specs.declared.body.Shape.the-variants as shape
-use Rattle.data.specs.Data.{readFields, readData}
-use Rattle.data.proofs.Bounds.{some-value}
+use Rattle.data.specs.Data.{readFields, readData, readsAs, dataForms, dataAt}
+use Rattle.data.proofs.Bounds.{some-value, values-some, values-none}
+use Rattle.bodies.specs.declared.body.Shape.{Shape}
+use Rattle.bodies.specs.declared.body.Shape.the-variants.{Of, Malformed}
 use Rattle.bodies.specs.Body.{dataShape, numbered, readShape}
+use Rattle.bodies.specs.Position.{forms, shapeAt, shapeIn}
 use Rattle.bodies.proofs.body.read_shape.Statement.{statement}
 use Rattle.bodies.proofs.body.read_shape.Tie as tie
 
-no-data : (k : Kind) → readData k [] ≡ values.Malformed
+-- ---- the answer for a list of fields
+
+module _ (etx : ℕ) (rule : Rule) where
+  answer : List Placed → Shape
+  answer fs = shapeAt (startOf etx (drop 1 fs)) (offending etx (forms rule) fs) (readShape rule (map (λ f. f .text) fs))
+
+  module _ (f : Placed) (fs : List Placed) where
+    unread : readWhole (f .text) ≡ none → answer (f ∷ fs) ≡ Malformed (f .position)
+    unfolding answer readShape
+    unread e = rw (offending-next etx (λ s. readsAs (λ n. true) (readWhole s)) (cond (rule .store) (dataForms (rule .kind)) []) f fs, e)
+
+    -- the number is n, and the fields after it decide
+    read : {n : ℕ} → readWhole (f .text) ≡ some n → answer (f ∷ fs) ≡ shapeAt (startOf etx fs) (offending etx (cond (rule .store) (dataForms (rule .kind)) []) fs) (numbered (some n) (dataShape (rule .store) (rule .kind) (map (λ g. g .text) fs)))
+    unfolding answer readShape
+    read e = rw (offending-next etx (λ s. readsAs (λ n. true) (readWhole s)) (cond (rule .store) (dataForms (rule .kind)) []) f fs, e)
+
+no-data : (etx : ℕ) (rule : Rule) → (offending etx (dataForms (rule .kind)) [] ≡ etx) × (readData (rule .kind) [] ≡ none)
 unfolding readFields
-no-data k = rw (some-value k .1)
+no-data etx rule = rw (some-value (rule .kind) .1) (offending-lack etx _ _, refl)
 
-module _ (rule : Rule) (s : List ℕ) where
-  unread : readWhole (fieldAt s 0) ≡ whole.Malformed → readShape rule (fields s) ≡ shape.Malformed
-  unfolding readShape
-  unread w = rw (fields-first s (before 32 s) (omega arith), w)
+-- ---- the fields that stand at index i
 
-  module _ {e n : ℕ} (w : readWhole (fieldAt s 0) ≡ whole.Value n) (q : e ≡ endAt s 0) where
-    number : readWhole (take e s) ≡ whole.Value n
-    number = let k : e ≡ before 32 s = omega arith in rw k w
+module _ (rule : Rule) (s : List ℕ) (i : ℕ) where
+  here : Placed
+  here = record { position = i; text = fieldAt s i }
 
-    alone : e ≡ length s → readShape rule (fields s) ≡ numbered (whole.Value n) (dataShape (rule .store) (rule .kind) [])
-    unfolding readShape
-    alone h = rw (fields-only s e q h, number)
+  answer-is : (fs : List Placed) → placed i (drop i s) ≡ fs → shapeIn rule s i ≡ answer (length s) rule fs
+  unfolding answer
+  answer-is fs e = rw (← placed-texts i (drop i s), e)
 
-    followed : (e ≡ length s → ⊥) → readShape rule (fields s) ≡ numbered (whole.Value n) (dataShape (rule .store) (rule .kind) (fields (drop (e + 1) s)))
-    unfolding readShape
-    followed h = rw (fields-next s e q h, number)
+  unread-at : readWhole (fieldAt s i) ≡ none → shapeIn rule s i ≡ Malformed i
+  unfolding placed here
+  unread-at e = answer-is (here ∷ placedMore i (drop i s)) (rw (first-is (drop i s))) ∙ unread (length s) rule here (placedMore i (drop i s)) e
+
+  module _ (h : i ≤ length s) {e n : ℕ} (w : readWhole (fieldAt s i) ≡ some n) (q : e ≡ endAt s i) where
+    alone : e ≡ length s → shapeIn rule s i ≡ shapeAt e (offending e (cond (rule .store) (dataForms (rule .kind)) []) []) (numbered (some n) (dataShape (rule .store) (rule .kind) []))
+    unfolding here
+    alone z = answer-is (here ∷ []) (placed-only s i h (sym q ∙ z)) ∙ rw (z) (read (length s) rule here [] w)
+
+    followed : (e ≡ length s → ⊥) → shapeIn rule s i ≡ shapeAt (e + 1) (offending (length s) (cond (rule .store) (dataForms (rule .kind)) []) (placed (e + 1) (drop (e + 1) s))) (numbered (some n) (dataShape (rule .store) (rule .kind) (fields (drop (e + 1) s))))
+    unfolding here placed
+    followed z =
+        answer-is (here ∷ placed (e + 1) (drop (e + 1) s)) (rw q (placed-next s i h (λ d. z (q ∙ d))))
+        ∙ read (length s) rule here (placed (e + 1) (drop (e + 1) s)) w
+        ∙ rw (placed-texts (e + 1) (drop (e + 1) s))
+
+    -- fields lack, or there is one too many
+    lacks : rule .store ≡ true → e ≡ length s → Malformed e ≡ shapeIn rule s i
+    lacks t z = let d = no-data e rule in sym (alone z ∙ rw (t, d .0, d .1))
+
+    surplus : rule .store ≡ false → (e ≡ length s → ⊥) → Malformed (e + 1) ≡ shapeIn rule s i
+    unfolding fields placed
+    surplus t z = sym (followed z ∙ rw (t, offending-none (length s) (placed (e + 1) (drop (e + 1) s))))
+
+    -- no data are given, or the data decide
+    bare : rule .store ≡ false → e ≡ length s → Of n (one (pos 0)) e ≡ shapeIn rule s i
+    bare t z = sym (alone z ∙ rw t)
+
+    module _ (t : rule .store ≡ true) (z : e ≡ length s → ⊥) {v : Values} (a : v ≡ dataAt (rule .kind) s (e + 1)) where
+      given : {r : Row} → v ≡ values.Of r → Of n r (e + 1) ≡ shapeIn rule s i
+      given d = sym (followed z ∙ rw (t, values-some _ (readData (rule .kind) (fields (drop (e + 1) s))) a d))
+
+      wrong : {p : ℕ} → v ≡ values.Malformed p → Malformed p ≡ shapeIn rule s i
+      wrong d =
+          let w = values-none _ (readData (rule .kind) (fields (drop (e + 1) s))) a d in
+          sym (followed z ∙ rw (t, w .0, w .1))
+
+-- ---- the number as it was read
+
+module _ (c : tie.After-whole) where
+  abbrev start : tie.Start
+  start = c .before .before .before .before
+
+  number : readWhole (fieldAt (start .args .s .now) (start .args .from)) ≡ some (c .whole .given .0 .0)
+  number = told-some _ _ (c .before .before .read-whole .ensures .0) (c .whole .given .1)
+
+  ends : c .before .before .read-whole .result .end ≡ endAt (start .args .s .now) (start .args .from)
+  ends = c .before .before .read-whole .ensures .1 .0 _ (c .whole .given .1)
 
 returns : tie.Need-returns
 returns c =
-    let read = c .before .before in
-    let a = read .before .before .args in
-    sym (unread (a .rule) (a .s .now) (sym (read .read-whole .ensures .0) ∙ c .enum-told .given .1))
+    let n = c .before .before .before in
+    let a = start n .args in
+    lacks (a .rule) (a .s .now) (a .from) (start n .pre) (number n) (ends n) (c .if2 .taken) (c .before .if1 .taken)
 
 returns-2 : tie.Need-returns-2
 returns-2 c =
     let n = c .before .before .before in
-    let read = n .before .before in
-    let a = read .before .before .args in
-    rw (alone (a .rule) (a .s .now) (sym (read .read-whole .ensures .0) ∙ n .whole .given .1) (read .read-whole .ensures .1 .0 _ (n .whole .given .1)) (c .before .if1 .taken), c .if2 .taken, no-data)
+    let a = start n .args in
+    bare (a .rule) (a .s .now) (a .from) (start n .pre) (number n) (ends n) (c .if2 .left) (c .before .if1 .taken)
 
 returns-3 : tie.Need-returns-3
 returns-3 c =
-    let n = c .before .before .before in
-    let read = n .before .before in
-    let a = read .before .before .args in
-    rw (alone (a .rule) (a .s .now) (sym (read .read-whole .ensures .0) ∙ n .whole .given .1) (read .read-whole .ensures .1 .0 _ (n .whole .given .1)) (c .before .if1 .taken), c .if2 .left)
+    let d = c .before .before .before in
+    let n = d .before .before .before .before in
+    let a = start n .args in
+    given (a .rule) (a .s .now) (a .from) (start n .pre) (number n) (ends n) (d .before .if3 .taken) (d .before .before .if1 .left) (d .read-data .ensures) (c .before .values .given .1)
 
 returns-4 : tie.Need-returns-4
 returns-4 c =
     let d = c .before .before .before in
-    let n = d .before .before .before .before .before in
-    let read = n .before .before in
-    let a = read .before .before .args in
-    rw (followed (a .rule) (a .s .now) (sym (read .read-whole .ensures .0) ∙ n .whole .given .1) (read .read-whole .ensures .1 .0 _ (n .whole .given .1)) (d .before .before .before .if1 .left), d .before .before .if3 .taken, ← rest (read .read-whole .result .end + 1) (a .s .now), ← d .read-data .ensures, c .before .values .given .1)
+    let n = d .before .before .before .before in
+    let a = start n .args in
+    wrong (a .rule) (a .s .now) (a .from) (start n .pre) (number n) (ends n) (d .before .if3 .taken) (d .before .before .if1 .left) (d .read-data .ensures) (c .before .values2 .given .1)
 
 returns-5 : tie.Need-returns-5
 returns-5 c =
-    let d = c .before .before in
-    let n = d .before .before .before .before .before in
-    let read = n .before .before in
-    let a = read .before .before .args in
-    rw (followed (a .rule) (a .s .now) (sym (read .read-whole .ensures .0) ∙ n .whole .given .1) (read .read-whole .ensures .1 .0 _ (n .whole .given .1)) (d .before .before .before .if1 .left), d .before .before .if3 .taken, ← rest (read .read-whole .result .end + 1) (a .s .now), ← d .read-data .ensures, c .enum-told2 .given .1)
+    let n = c .before .before .before in
+    let a = start n .args in
+    surplus (a .rule) (a .s .now) (a .from) (start n .pre) (number n) (ends n) (c .if3 .left) (c .before .if1 .left)
 
 returns-6 : tie.Need-returns-6
-unfolding fields
 returns-6 c =
-    let n = c .before .before .before in
-    let read = n .before .before in
+    let read = c .before .before .before in
     let a = read .before .before .args in
-    rw (followed (a .rule) (a .s .now) (sym (read .read-whole .ensures .0) ∙ n .whole .given .1) (read .read-whole .ensures .1 .0 _ (n .whole .given .1)) (c .before .if1 .left), c .if3 .left)
+    let w = told-none (a .from) (readWhole (fieldAt (a .s .now) (a .from))) (read .read-whole .ensures .0) (c .before .whole2 .given .1) in
+    ap Malformed (w .1) ∙ sym (unread-at (a .rule) (a .s .now) (a .from) (w .0))
 
 pub read-shape-spec : {M : Type 1} → statement M
 read-shape-spec =
@@ -92,17 +152,14 @@ read-shape-spec =
     (tie.spec
     (λ c κs. search needs)
     (λ c. search needs)
-    (λ c. search needs)
     returns
     returns-2
-    returns-3
-    (λ c. search needs)
-    (λ c. search needs)
-    (λ c. search needs)
     (λ c. search needs)
     (λ c κs. search needs)
     (λ c. search needs)
     (λ c. search needs)
+    returns-3
     returns-4
+    (λ c. search needs)
     returns-5
     returns-6)

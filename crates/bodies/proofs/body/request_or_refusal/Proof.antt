@@ -22,8 +22,14 @@ returns c =
 returns-2 : tie.Need-returns-2
 unfolding requestOrRefusal
 returns-2 c =
-    let j = c .before in
-    rw (← j .before .pre, ← j .judge-parts .ensures, ne-eqb _ _ (c .if1 .left))
+    let j = c .before .before in
+    rw (← j .before .pre, ← j .judge-parts .ensures, ne-eqb _ _ (c .before .if1 .left), eq-eqb _ _ (c .if2 .taken))
+
+returns-3 : tie.Need-returns-3
+unfolding requestOrRefusal
+returns-3 c =
+    let j = c .before .before in
+    rw (← j .before .pre, ← j .judge-parts .ensures, ne-eqb _ _ (c .before .if1 .left), ne-eqb _ _ (c .if2 .left))
 
 pub request-or-refusal-spec : {M : Type 1} → statement M
-request-or-refusal-spec = tie.close (tie.spec judge-parts-requires request-of-requires returns returns-2)
+request-or-refusal-spec = tie.close (tie.spec judge-parts-requires request-of-requires returns returns-2 returns-3)

@@ -1,7 +1,8 @@
-use Prim.Native.Nat.{_-_}
+use Prim.Native.Nat.{ℕ, _-_}
 use mathlib.Core.Path.{_≡_, refl, sym, _∙_}
 use mathlib.Core.Bool.{false}
 use mathlib.Core.Logic.{⊎-elim}
+use mathlib.Core.Option.{Option, none, some}
 use native.Mathlib.Omega.{arith}
 use borrow.Author.Needs.{needs}
 use borrow.Author.Tests.{eq-eqb, ne-eqb}
@@ -9,7 +10,12 @@ use lib.Dec.{eqb}
 use lib.ListN.{length, getD, drop, length-drop, List·getD-eq-default}
 use lib.Seq.{take-all}
 use Rattle.text.specs.Whole.{digitsOnto, readWhole}
+use Rattle.frame.specs.Fields.{fields}
 use Rattle.commands.specs.declared.command.Kind.{Kind}
+use Rattle.commands.specs.declared.request.Row.{Row}
+use Rattle.data.specs.declared.data.Values.{Values}
+use Rattle.data.specs.declared.data.Values.the-variants.{Of, Malformed}
+use Rattle.data.specs.Data.{readData, valuesAt}
 use Rattle.bodies.specs.declared.reply.Outcome.the-variants as outcome
 use Rattle.bodies.specs.declared.reply.Carried.the-variants as carried
 use Rattle.bodies.specs.Reply.{unknownText, asData, readStatus, readLoadOutcome}
@@ -29,9 +35,20 @@ no-e c =
     ⊎-elim (λ w. ne-eqb _ _ (w .2 .left)) (λ w. rw (List·getD-eq-default s 0 {n = 0} (w .left))) (c .if2 .came)
 
 -- so that the data decide
-held : (c : tie.After-read-data) → asData (c .before .before .before .before .before .before .args .kind) (c .read-data .result) ≡ readLoadOutcome (c .before .before .before .before .before .before .args .kind) (c .before .before .before .before .before .before .args .body .now)
+rowIn : Values → Option Row
+rowIn (Of r) = some r
+rowIn (Malformed p) = none
+
+row-in : (at : ℕ) (o : Option Row) → rowIn (valuesAt at o) ≡ o
+unfolding rowIn
+row-in at (some r) = refl
+row-in at none = refl
+
+held : (c : tie.After-read-data) → asData (c .before .before .before .before .before .before .args .kind) (rowIn (c .read-data .result)) ≡ readLoadOutcome (c .before .before .before .before .before .before .args .kind) (c .before .before .before .before .before .before .args .body .now)
 unfolding readLoadOutcome
-held c = rw (no-e (c .before), ← c .read-data .ensures)
+held c =
+    let a = c .before .before .before .before .before .before .args in
+    rw (no-e (c .before), c .read-data .ensures, row-in _ (readData (a .kind) (fields (a .body .now))))
 
 slice-aggregate-is-same : tie.Need-slice-aggregate-is-same
 slice-aggregate-is-same c = search needs
@@ -77,6 +94,7 @@ data-of-requires : tie.Need-data-of-requires
 data-of-requires c κs = search needs
 
 returns-3 : tie.Need-returns-3
+unfolding rowIn
 returns-3 c =
     let v = c .before .before .before .before in
     rw (v .values .given .1, sym (c .before .before .all-in-range .ensures) ∙ c .before .if4 .taken, ← c .data-of .ensures) at (held (v .before .before))
@@ -85,11 +103,13 @@ enum-told : tie.Need-enum-told
 enum-told c = search needs
 
 returns-4 : tie.Need-returns-4
+unfolding rowIn
 returns-4 c =
     let v = c .before .before .before in
     rw (v .values .given .1, sym (c .before .all-in-range .ensures) ∙ c .if4 .left) at (held (v .before .before))
 
 returns-5 : tie.Need-returns-5
+unfolding rowIn
 returns-5 c = rw (c .enum-told .given .1) at (held (c .before .before))
 
 pub read-load-outcome-spec : {M : Type 1} → statement M

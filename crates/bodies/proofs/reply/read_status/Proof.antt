@@ -2,12 +2,12 @@ use Prim.Native.Nat.{ℕ, suc, _<_}
 use mathlib.Core.Path.{_≡_, refl, sym, _∙_}
 use mathlib.Core.Bool.{Bool, true, false, cond}
 use mathlib.Core.List.{List, [], _∷_}
+use mathlib.Core.Option.{none, some}
 use native.Mathlib.Omega.{arith}
 use borrow.Author.Needs.{needs}
 use borrow.Author.Tests.{eq-eqb, ne-eqb}
 use lib.Dec.{eqb}
 use lib.ListN.{length}
-use Rattle.text.specs.declared.whole.Whole.the-variants.{Value, Malformed}
 use Rattle.text.specs.Whole.{isDigit, digitsOnto, readWhole, digitCount, digitValue}
 use Rattle.text.proofs.Decimals.{whole-below}
 use Rattle.bodies.specs.declared.reply.Outcome.the-variants as outcome
@@ -18,14 +18,14 @@ use Rattle.bodies.proofs.reply.read_status.Statement.{statement}
 use Rattle.bodies.proofs.reply.read_status.Tie as tie
 
 -- two bytes are a number where both are digits
-whole-is : (s : List ℕ) → length s ≡ 2 → readWhole s ≡ cond (eqb (digitCount 4 s) 2) (Value (digitValue 4 0 s)) Malformed
+whole-is : (s : List ℕ) → length s ≡ 2 → readWhole s ≡ cond (eqb (digitCount 4 s) 2) (some (digitValue 4 0 s)) none
 unfolding readWhole digitsOnto digitCount digitValue
 whole-is [] h = absurd (omega arith)
 whole-is (a ∷ []) h = absurd (omega arith)
 whole-is (a ∷ b ∷ c ∷ s) h = absurd (omega arith)
 whole-is (a ∷ b ∷ []) h = go (isDigit a) (isDigit b) _ _
   where
-    go : (t u : Bool) (v w : ℕ) → cond t (cond u (Value v) Malformed) Malformed ≡ cond (eqb (cond t (suc (cond u 1 0)) 0) 2) (Value (cond t (cond u v w) 0)) Malformed
+    go : (t u : Bool) (v w : ℕ) → cond t (cond u (some v) none) none ≡ cond (eqb (cond t (suc (cond u 1 0)) 0) 2) (some (cond t (cond u v w) 0)) none
     go true true v w = refl
     go true false v w = refl
     go false u v w = refl
@@ -36,7 +36,7 @@ module _ (s : List ℕ) (h : length s ≡ 2) where
   other n = rw (eq-eqb _ _ h, whole-is s h, ne-eqb _ _ n)
 
   module _ (n : digitCount 4 s ≡ 2) where
-    number : readWhole s ≡ Value (digitValue 4 0 s)
+    number : readWhole s ≡ some (digitValue 4 0 s)
     number = whole-is s h ∙ rw (eq-eqb _ _ n)
 
     -- two digits are below 100

@@ -16,7 +16,7 @@ returns c =
     let r = c .before .before in
     let s = r .before .before in
     let f = fieldAt (s .args .s .now) (s .args .from) in
-    (ap (wholeAt (s .args .from)) (sym (decimals-none f (told-none _ _ (r .read-whole .ensures .0) (c .enum-told .given .1)))), λ v e. no-whole e)
+    (ap (wholeAt (s .args .from)) (sym (decimals-none f (told-none _ _ (r .read-whole .ensures .0) (c .enum-told .given .1) .0))), λ v e. no-whole e)
 
 mul-t10 : tie.Need-mul-t10
 mul-t10 c =

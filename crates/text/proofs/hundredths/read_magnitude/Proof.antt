@@ -67,7 +67,7 @@ returns-5 c =
     let d = e .before .before .before in
     let s = d .before .before in
     let p = field-point (s .args .s .now) (s .args .from) (d .read-digits .result .end) (d .read-digits .ensures .0 .0) (d .read-digits .ensures .1 .0) (sym (r .before .before .before .if2 .left) ∙ e .is-end .ensures) (e .before .if1 .left) (r .before .if3 .left) in
-    (ap (joined (some _)) (sym (told-none _ (decimals (fieldAt (s .args .s .now) (d .read-digits .result .end + 1))) (r .read-decimals .ensures .0) (c .enum-told .given .1))) ∙ sym (p .0), λ m e. no-magnitude e)
+    (ap (joined (some _)) (sym (told-none _ (decimals (fieldAt (s .args .s .now) (d .read-digits .result .end + 1))) (r .read-decimals .ensures .0) (c .enum-told .given .1) .0)) ∙ sym (p .0), λ m e. no-magnitude e)
 
 pub read-magnitude-spec : {M : Type 1} → statement M
 read-magnitude-spec =
