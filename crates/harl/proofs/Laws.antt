@@ -1,4 +1,4 @@
--- Checks that pass, what data that answer a command are, and what a writer answers.
+-- Checks that pass, what data that answer a command are, what a body was judged, and what a writer answers.
 use Prim.Native.Nat.{ℕ, zero, suc, _≤_}
 use mathlib.Core.Path.{_≡_, refl, sym, ap, _∙_}
 use mathlib.Core.Bool.{Bool, true, false, cond, _&&_, _||_}
@@ -8,13 +8,21 @@ use borrow.Author.Tests.{eqb-true}
 use lib.Dec.{eqb}
 use lib.ListN.{length}
 use Rattle.text.specs.Put.{PutAt}
+use Rattle.frame.specs.Frame.{readFrame}
 use Rattle.commands.specs.declared.command.Kind.{Kind}
 use Rattle.commands.specs.declared.command.Kind.the-variants.{Timer, Register, Row, Signal, Port}
 use Rattle.commands.specs.declared.command.Rule.{Rule}
+use Rattle.commands.specs.declared.request.Request.{Request}
+use Rattle.bodies.specs.declared.body.Judged.{Judged}
+use Rattle.bodies.specs.declared.body.Judged.the-variants as judged
 use Rattle.bodies.specs.declared.reply.Content.{Content}
 use Rattle.bodies.specs.declared.reply.Data.{Data}
 use Rattle.bodies.specs.declared.reply.Outcome.the-variants as outcome
 use Rattle.data.specs.Ranges.{allInRange}
+use Rattle.bodies.specs.Verdict.{Verdict}
+use Rattle.bodies.specs.Verdict as verdict
+use Rattle.bodies.specs.Body.{readBody}
+use Rattle.bodies.specs.Position.{bodyPosition, judgedAt}
 use Rattle.bodies.specs.Reply.{contentOf, codeOf, dataFit, judgeOutcome}
 use Rattle.harl.specs.Message.{Wrote}
 
@@ -65,10 +73,30 @@ fitting rule d = go (rule .store) (eqb (codeOf (contentOf d .kind)) (codeOf (rul
     go false true false p q r e = absurd (omega arith)
     go false true true p q r e = record { loads = p; kind = kind-is _ _ (eqb-true _ _ q); range = r }
 
+-- ---- what the reader of a body answers is the verdict of the definitions, with the position of a refusal
+
+module _ (slice : List ℕ) where
+  abbrev verdictOf : Verdict
+  verdictOf = readBody (readFrame slice .body)
+
+  pub judged-accepted : {j : Judged} {r : Request} → j ≡ judgedAt (bodyPosition slice) verdictOf → j ≡ judged.Accepted r → verdictOf ≡ verdict.Accepted r
+  judged-accepted {j} {r} e g = go verdictOf (sym e ∙ g)
+    where
+      go : (v : Verdict) → judgedAt (bodyPosition slice) v ≡ judged.Accepted r → v ≡ verdict.Accepted r
+      go (verdict.Accepted q) h = cc
+      go (verdict.Refused m s) h = let z : _≡_ {A = ℕ} 0 1 = cc in absurd (omega arith)
+
+  pub judged-refused : {j : Judged} {n p : ℕ} {store : Bool} → j ≡ judgedAt (bodyPosition slice) verdictOf → j ≡ judged.Refused n store p → (verdictOf ≡ verdict.Refused n store) × (p ≡ bodyPosition slice n)
+  judged-refused {j} {n} {p} {store} e g = go verdictOf (sym e ∙ g)
+    where
+      go : (v : Verdict) → judgedAt (bodyPosition slice) v ≡ judged.Refused n store p → (v ≡ verdict.Refused n store) × (p ≡ bodyPosition slice n)
+      go (verdict.Accepted q) h = let z : _≡_ {A = ℕ} 0 1 = cc in absurd (omega arith)
+      go (verdict.Refused m s) h = (cc, cc)
+
 -- ---- what a writer answers
 
-pub wrote-none : {n : ℕ} {xs : List ℕ} → Wrote (record { number = n; bytes = [] }) xs (record { number = n; length = 0 }) xs
-wrote-none = record { number = refl; length-is = refl; fits = omega arith; area = refl }
+pub wrote-none : {n p : ℕ} {xs : List ℕ} → Wrote (record { number = n; position = p; bytes = [] }) xs (record { number = n; length = 0; position = p }) xs
+wrote-none = record { number = refl; position = refl; length-is = refl; fits = omega arith; area = refl }
 
-pub wrote-all : {n r : ℕ} {bytes xs ys : List ℕ} → PutAt xs 0 bytes r ys → length bytes ≤ length xs → Wrote (record { number = n; bytes = bytes }) xs (record { number = n; length = r }) ys
-wrote-all p fits = record { number = refl; length-is = omega (arith, p .next); fits = fits; area = p .area }
+pub wrote-all : {n p r : ℕ} {bytes xs ys : List ℕ} → PutAt xs 0 bytes r ys → length bytes ≤ length xs → Wrote (record { number = n; position = p; bytes = bytes }) xs (record { number = n; length = r; position = p }) ys
+wrote-all w fits = record { number = refl; position = refl; length-is = omega (arith, w .next); fits = fits; area = w .area }

@@ -28,7 +28,7 @@ use Rattle.commands.specs.declared.request.Request.the-variants as request
 use Rattle.commands.specs.declared.request.Parts.{Parts}
 use Rattle.data.specs.declared.data.Values.the-variants as values
 use Rattle.bodies.specs.declared.body.Shape.the-variants as shape
-use Rattle.bodies.specs.declared.body.Judged.the-variants.{Accepted}
+use Rattle.bodies.specs.Verdict.{Accepted}
 use Rattle.commands.specs.Command.{nameOf, ruleOf}
 use Rattle.commands.proofs.Names.{name, name-solid}
 use Rattle.commands.specs.Request.{one, partsOf, requestOf}

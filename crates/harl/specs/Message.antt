@@ -7,11 +7,9 @@ use mathlib.Core.Option.{Option, none, some}
 use lib.Dec.{ltb, eqb}
 use lib.ListN.{length}
 use lib.Seq.{sets}
-use Rattle.frame.specs.Frame.{Reading, readFrame, frameOf}
+use Rattle.frame.specs.Frame.{Reading, readFrame, framePosition, frameOf}
 use Rattle.commands.specs.declared.command.Rule.{Rule}
 use Rattle.commands.specs.declared.request.Request.{Request}
-use Rattle.bodies.specs.declared.body.Judged.{Judged}
-use Rattle.bodies.specs.declared.body.Judged.the-variants as judged
 use Rattle.bodies.specs.declared.reply.Outcome.{Outcome}
 use Rattle.bodies.specs.declared.reply.Carried.{Carried}
 use Rattle.bodies.specs.declared.reply.Carried.the-variants as carried
@@ -23,7 +21,10 @@ use Rattle.harl.specs.declared.message.Sent.{Sent}
 use Rattle.commands.specs.Command.{ruleOf}
 use Rattle.commands.specs.Request.{partsOf}
 use Rattle.data.specs.Ranges.{judge}
+use Rattle.bodies.specs.Verdict.{Verdict}
+use Rattle.bodies.specs.Verdict as verdict
 use Rattle.bodies.specs.Body.{readBody, bodyText}
+use Rattle.bodies.specs.Position.{bodyPosition}
 use Rattle.bodies.specs.Reply.{judgeOutcome, outcomeText, readOutcome}
 
 -- the rule of a request's command
@@ -40,52 +41,59 @@ judgeAsked station r = cond (eqb station 0 || ltb 99 station) 7 (judgeRequest r)
 
 -- ---- reading a request: 2 to 7, then 9 to 12
 
--- what reading a request hands back: the refusal number, 0 for none; the station and the request, 0 and none where
--- refused
+-- what reading a request hands back: the refusal number, 0 for none; the position where the slice is wrong (document 02,
+-- E9), 0 where there is none to tell; the station and the request, 0 and none where refused
 pub record RequestReading : Type 0 where
   pub number : ℕ
+  pub position : ℕ
   pub station : ℕ
   pub request : Option Request
 
 -- accepted
 abbrev pub theRequest : ℕ → Request → RequestReading
-theRequest station r = record { number = 0; station = station; request = some r }
+theRequest station r = record { number = 0; position = 0; station = station; request = some r }
 
--- refused
-abbrev pub noRequest : ℕ → RequestReading
-noRequest n = record { number = n; station = 0; request = none }
+-- refused: the number and the position
+abbrev pub noRequest : ℕ → ℕ → RequestReading
+noRequest n p = record { number = n; position = p; station = 0; request = none }
 
--- the number and the values of each case of the code's answer
+-- the number, the position and the values of each case of the code's answer
 abbrev pub askedValues : Asked → RequestReading
 askedValues (asked.Accepted station r) = theRequest station r
-askedValues (asked.Refused n) = noRequest n
+askedValues (asked.Refused n p) = noRequest n p
 
--- 9 to 12 of the body of a station's frame
-abbrev pub fromStation : ℕ → Judged → RequestReading
-fromStation station (judged.Accepted r) = theRequest station r
-fromStation station (judged.Refused n store) = noRequest n
+-- 9 to 12 of the body of a station's frame, which is a slice
+abbrev pub fromStation : List ℕ → ℕ → Verdict → RequestReading
+fromStation slice station (verdict.Accepted r) = theRequest station r
+fromStation slice station (verdict.Refused n store) = noRequest n (bodyPosition slice n)
 
 -- 2 to 7, then those
-abbrev pub requestIn : Reading → RequestReading
-requestIn o = cond (eqb (o .number) 0) (fromStation (o .station) (readBody (o .body))) (noRequest (o .number))
+abbrev pub requestIn : List ℕ → Reading → RequestReading
+requestIn slice o =
+    cond (eqb (o .number) 0) (fromStation slice (o .station) (readBody (o .body)))
+    (noRequest (o .number) (framePosition slice (o .number)))
 
 -- a slice read as a request
 unfoldable pub readRequest : List ℕ → RequestReading
-readRequest s = requestIn (readFrame s)
+readRequest s = requestIn s (readFrame s)
 
 -- ---- writing
 
--- what a writer gives: a refusal number, and the bytes of the frame, none where refused
+-- what a writer and serving give: a refusal number, the position where a slice is wrong, 0 where there is none to tell,
+-- and the bytes of the frame, none where there is none
 pub record Message : Type 0 where
   pub number : ℕ
+  pub position : ℕ
   pub bytes : List ℕ
 
+-- a writer has no slice
 abbrev pub message : ℕ → List ℕ → Message
-message n bytes = record { number = n; bytes = cond (eqb n 0) bytes [] }
+message n bytes = record { number = n; position = 0; bytes = cond (eqb n 0) bytes [] }
 
 -- the area holds the message's bytes at its front, and is untouched past them
 pub record Wrote (m : Message) (before : List ℕ) (sent : Sent) (after : List ℕ) : Type 0 where
   pub number : sent .number ≡ m .number
+  pub position : sent .position ≡ m .position
   pub length-is : sent .length ≡ length (m .bytes)
   pub fits : length (m .bytes) ≤ length before
   pub area : after ≡ sets before 0 (m .bytes)
@@ -106,36 +114,39 @@ writeReply room station r o = message (judgeReply room station r o) (frameOf sta
 
 -- ---- reading a reply: 7, 11, 12 of the request, 2 to 7 of the slice, then 15
 
--- what reading a reply hands back: the refusal number, 0 for none; the data or the status, none where refused
+-- what reading a reply hands back: the refusal number, 0 for none; the position where the slice is wrong, 0 where there
+-- is none to tell; the data or the status, none where refused
 pub record ReplyReading : Type 0 where
   pub number : ℕ
+  pub position : ℕ
   pub outcome : Option Outcome
 
 -- accepted
 abbrev pub theOutcome : Outcome → ReplyReading
-theOutcome o = record { number = 0; outcome = some o }
+theOutcome o = record { number = 0; position = 0; outcome = some o }
 
--- refused
-abbrev pub noOutcome : ℕ → ReplyReading
-noOutcome n = record { number = n; outcome = none }
+-- refused: the number and the position
+abbrev pub noOutcome : ℕ → ℕ → ReplyReading
+noOutcome n p = record { number = n; position = p; outcome = none }
 
--- the number and the values of each case of the code's answer
+-- the number, the position and the values of each case of the code's answer
 abbrev pub answeredValues : Answered → ReplyReading
 answeredValues (answered.Accepted o) = theOutcome o
-answeredValues (answered.Refused n) = noOutcome n
+answeredValues (answered.Refused n p) = noOutcome n p
 
 -- a body that carries nothing is no reply to that request
 abbrev pub fromCarried : Carried → ReplyReading
 fromCarried (carried.Outcome o) = theOutcome o
-fromCarried carried.Nothing = noOutcome 15
+fromCarried carried.Nothing = noOutcome 15 0
 
 -- 15 REPLY: not the asked station, or not a reply to that request
-abbrev pub replyIn : Reading → ℕ → Request → ReplyReading
-replyIn o station r =
+abbrev pub replyIn : List ℕ → Reading → ℕ → Request → ReplyReading
+replyIn slice o station r =
     cond (eqb (o .number) 0)
-    (cond (eqb (o .station) station) (fromCarried (readOutcome (ruleFor r) (o .body))) (noOutcome 15))
-    (noOutcome (o .number))
+    (cond (eqb (o .station) station) (fromCarried (readOutcome (ruleFor r) (o .body))) (noOutcome 15 0))
+    (noOutcome (o .number) (framePosition slice (o .number)))
 
 -- 7, 11, 12 of the request, then those of the slice
 unfoldable pub readReply : List ℕ → ℕ → Request → ReplyReading
-readReply s station r = cond (eqb (judgeAsked station r) 0) (replyIn (readFrame s) station r) (noOutcome (judgeAsked station r))
+readReply s station r =
+    cond (eqb (judgeAsked station r) 0) (replyIn s (readFrame s) station r) (noOutcome (judgeAsked station r) 0)

@@ -1,5 +1,5 @@
 // The four entries: a request read and written, a reply written and read. None has a `requires`. A refused
-// reader hands back its number alone; a refused writer reports length 0 and leaves the area untouched.
+// reader hands back its number and position alone; a refused writer reports length 0 and leaves the area untouched.
 use bodies::body::Judged;
 use bodies::body::put_body;
 use bodies::body::read_body;
@@ -19,23 +19,26 @@ ghost use mathlib.Core.Path.{_≡_};
 ghost use lib.ListN.{length};
 ghost use Rattle.harl.specs.Message.{judgeAsked, askedValues, readRequest, writeRequest, writeReply, Wrote, answeredValues, readReply};
 
-// What a slice is as a request: its station and the request, or the number of its refusal.
+// What a slice is as a request: its station and the request, or the number of its refusal and the position where it is
+// wrong, 0 where there is none to tell.
 pub enum Asked {
     Accepted(u8, Request),
-    Refused(u8),
+    Refused(u8, usize),
 }
 
-// What a slice is as a reply: what it carries, or the number of its refusal.
+// What a slice is as a reply: what it carries, or the number and the position of its refusal.
 pub enum Answered {
     Accepted(Outcome),
-    Refused(u8),
+    Refused(u8, usize),
 }
 
-// What a writer returns: the number of its refusal, or 0 and the length of the frame.
+// What a writer and serving return: the number of the refusal, or 0; the length of the frame; and for a refused slice the
+// position where it is wrong, 0 where there is none to tell.
 #[repr(C)]
 pub struct Sent {
     pub number: u8,
     pub length: usize,
+    pub position: usize,
 }
 
 // Checks 7, 11 and 12 of a typed request, in that order; 0 where all pass.
@@ -61,14 +64,15 @@ pub fn read_request(slice: &[u8]) -> Asked
 {
     let mut number: u8 = 0;
     let mut station: u8 = 0;
-    let body = read_frame(slice, &mut number, &mut station);
+    let mut position: usize = 0;
+    let body = read_frame(slice, &mut number, &mut station, &mut position);
     if number != 0 {
-        return Asked::Refused(number);
+        return Asked::Refused(number, position);
     }
-    let judged = read_body(body);
+    let judged = read_body(slice, body);
     match judged {
         Judged::Accepted(request) => Asked::Accepted(station, request),
-        Judged::Refused(n, _) => Asked::Refused(n),
+        Judged::Refused(n, _, at) => Asked::Refused(n, at),
     }
 }
 
@@ -80,16 +84,25 @@ pub fn write_request(area: &mut [u8], station: u8, request: Request) -> Sent
         return Sent {
             number: 1,
             length: 0,
+            position: 0,
         };
     }
     let number = judge_asked(station, request);
     if number != 0 {
-        return Sent { number, length: 0 };
+        return Sent {
+            number,
+            length: 0,
+            position: 0,
+        };
     }
     let at = open_frame(area, station);
     let end = put_body(area, at, parts_of(request));
     let length = close_frame(area, end);
-    Sent { number: 0, length }
+    Sent {
+        number: 0,
+        length,
+        position: 0,
+    }
 }
 
 // Writes the reply to a request: checks 1, 7, 11 and 12 of the request, then 12 of what the reply carries.
@@ -100,6 +113,7 @@ pub fn write_reply(area: &mut [u8], station: u8, request: Request, outcome: Outc
         return Sent {
             number: 1,
             length: 0,
+            position: 0,
         };
     }
     let asked = judge_asked(station, request);
@@ -107,6 +121,7 @@ pub fn write_reply(area: &mut [u8], station: u8, request: Request, outcome: Outc
         return Sent {
             number: asked,
             length: 0,
+            position: 0,
         };
     }
     let parts = parts_of(request);
@@ -114,12 +129,20 @@ pub fn write_reply(area: &mut [u8], station: u8, request: Request, outcome: Outc
     let rule = rule_of(command);
     let number = judge_outcome(rule, outcome);
     if number != 0 {
-        return Sent { number, length: 0 };
+        return Sent {
+            number,
+            length: 0,
+            position: 0,
+        };
     }
     let at = open_frame(area, station);
     let past = put_outcome(area, at, rule.store, outcome);
     let length = close_frame(area, past);
-    Sent { number: 0, length }
+    Sent {
+        number: 0,
+        length,
+        position: 0,
+    }
 }
 
 // Reads the reply to a request: checks 7, 11 and 12 of the request, 2 to 7 of the slice, then 15.
@@ -128,22 +151,23 @@ pub fn read_reply(slice: &[u8], station: u8, request: Request) -> Answered
 {
     let asked = judge_asked(station, request);
     if asked != 0 {
-        return Answered::Refused(asked);
+        return Answered::Refused(asked, 0);
     }
     let mut number: u8 = 0;
     let mut from: u8 = 0;
-    let body = read_frame(slice, &mut number, &mut from);
+    let mut position: usize = 0;
+    let body = read_frame(slice, &mut number, &mut from, &mut position);
     if number != 0 {
-        return Answered::Refused(number);
+        return Answered::Refused(number, position);
     }
     if from != station {
-        return Answered::Refused(15);
+        return Answered::Refused(15, 0);
     }
     let parts = parts_of(request);
     let command = parts.command;
     let carried = read_outcome(rule_of(command), body);
     match carried {
         Carried::Outcome(outcome) => Answered::Accepted(outcome),
-        Carried::Nothing => Answered::Refused(15),
+        Carried::Nothing => Answered::Refused(15, 0),
     }
 }

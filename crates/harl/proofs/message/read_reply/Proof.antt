@@ -19,15 +19,15 @@ returns-2 : tie.Need-returns-2
 unfolding readReply
 returns-2 c =
     let f = c .before in
-    let j = f .before .before .before .before in
-    rw (← j .judge-asked .ensures, eq-eqb _ _ (f .before .before .before .if1 .left), ← f .read-frame .ensures .number-is, ne-eqb _ _ (c .if2 .taken))
+    let j = f .before .before .before .before .before in
+    rw (← j .judge-asked .ensures, eq-eqb _ _ (f .before .before .before .before .if1 .left), ← f .read-frame .ensures .0 .number-is, ne-eqb _ _ (c .if2 .taken), ← f .read-frame .ensures .1)
 
 returns-3 : tie.Need-returns-3
 unfolding readReply
 returns-3 c =
     let f = c .before .before in
-    let j = f .before .before .before .before in
-    rw (← j .judge-asked .ensures, eq-eqb _ _ (f .before .before .before .if1 .left), ← f .read-frame .ensures .number-is, eq-eqb _ _ (c .before .if2 .left), ← f .read-frame .ensures .station-is, ne-eqb _ _ (c .if3 .taken))
+    let j = f .before .before .before .before .before in
+    rw (← j .judge-asked .ensures, eq-eqb _ _ (f .before .before .before .before .if1 .left), ← f .read-frame .ensures .0 .number-is, eq-eqb _ _ (c .before .if2 .left), ← f .read-frame .ensures .0 .station-is, ne-eqb _ _ (c .if3 .taken))
 
 parts-of-requires : tie.Need-parts-of-requires
 parts-of-requires c κs = search needs
@@ -50,8 +50,8 @@ returns-4 c =
     let o = c .before .before .before in
     let p = o .before .before in
     let f = p .before .before .before in
-    let j = f .before .before .before .before in
-    rw (← j .judge-asked .ensures, eq-eqb _ _ (f .before .before .before .if1 .left), ← f .read-frame .ensures .number-is, eq-eqb _ _ (p .before .before .if2 .left), ← f .read-frame .ensures .station-is, eq-eqb _ _ (p .before .if3 .left), ← f .read-frame .ensures .body-is, ← p .parts-of .ensures, ← o .before .rule-of .ensures, ← o .read-outcome .ensures, c .before .carried .given .1)
+    let j = f .before .before .before .before .before in
+    rw (← j .judge-asked .ensures, eq-eqb _ _ (f .before .before .before .before .if1 .left), ← f .read-frame .ensures .0 .number-is, eq-eqb _ _ (p .before .before .if2 .left), ← f .read-frame .ensures .0 .station-is, eq-eqb _ _ (p .before .if3 .left), ← f .read-frame .ensures .0 .body-is, ← p .parts-of .ensures, ← o .before .rule-of .ensures, ← o .read-outcome .ensures, c .before .carried .given .1)
 
 returns-5 : tie.Need-returns-5
 unfolding readReply
@@ -59,8 +59,8 @@ returns-5 c =
     let o = c .before .before in
     let p = o .before .before in
     let f = p .before .before .before in
-    let j = f .before .before .before .before in
-    rw (← j .judge-asked .ensures, eq-eqb _ _ (f .before .before .before .if1 .left), ← f .read-frame .ensures .number-is, eq-eqb _ _ (p .before .before .if2 .left), ← f .read-frame .ensures .station-is, eq-eqb _ _ (p .before .if3 .left), ← f .read-frame .ensures .body-is, ← p .parts-of .ensures, ← o .before .rule-of .ensures, ← o .read-outcome .ensures, c .enum-told .given .1)
+    let j = f .before .before .before .before .before in
+    rw (← j .judge-asked .ensures, eq-eqb _ _ (f .before .before .before .before .if1 .left), ← f .read-frame .ensures .0 .number-is, eq-eqb _ _ (p .before .before .if2 .left), ← f .read-frame .ensures .0 .station-is, eq-eqb _ _ (p .before .if3 .left), ← f .read-frame .ensures .0 .body-is, ← p .parts-of .ensures, ← o .before .rule-of .ensures, ← o .read-outcome .ensures, c .enum-told .given .1)
 
 pub read-reply-spec : {M : Type 1} → statement M
 read-reply-spec =

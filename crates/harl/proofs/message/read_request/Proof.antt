@@ -1,7 +1,9 @@
 -- `f` is where the frame was read, and `b` where its body was.
+use mathlib.Core.Path.{sym, _∙_}
 use borrow.Author.Needs.{needs}
 use borrow.Author.Tests.{eq-eqb, ne-eqb}
 use Rattle.harl.specs.Message.{readRequest}
+use Rattle.harl.proofs.Laws.{judged-accepted, judged-refused}
 use Rattle.harl.proofs.message.read_request.Statement.{statement}
 use Rattle.harl.proofs.message.read_request.Tie as tie
 
@@ -10,10 +12,14 @@ read-frame-requires c κs = search needs
 
 returns : tie.Need-returns
 unfolding readRequest
-returns c = rw (← c .before .read-frame .ensures .number-is, ne-eqb _ _ (c .if1 .taken))
+returns c =
+    let f = c .before in
+    rw (← f .read-frame .ensures .0 .number-is, ne-eqb _ _ (c .if1 .taken), ← f .read-frame .ensures .1)
 
 read-body-requires : tie.Need-read-body-requires
-read-body-requires c κs = search needs
+read-body-requires c κs =
+    let f = c .before in
+    (sym (f .read-frame .ensures .0 .number-is) ∙ c .if1 .left, f .read-frame .ensures .0 .body-is)
 
 enum-known-judged : tie.Need-enum-known-judged
 enum-known-judged c = search needs
@@ -26,14 +32,15 @@ unfolding readRequest
 returns-2 c =
     let b = c .before .before .before in
     let f = b .before .before in
-    rw (← f .read-frame .ensures .number-is, eq-eqb _ _ (b .before .if1 .left), ← f .read-frame .ensures .station-is, ← f .read-frame .ensures .body-is, ← b .read-body .ensures, c .before .judged .given .1)
+    rw (← f .read-frame .ensures .0 .number-is, eq-eqb _ _ (b .before .if1 .left), ← f .read-frame .ensures .0 .station-is, judged-accepted (f .before .before .before .before .before .args .slice .now) (b .read-body .ensures) (c .before .judged .given .1))
 
 returns-3 : tie.Need-returns-3
 unfolding readRequest
 returns-3 c =
     let b = c .before .before .before in
     let f = b .before .before in
-    rw (← f .read-frame .ensures .number-is, eq-eqb _ _ (b .before .if1 .left), ← f .read-frame .ensures .body-is, ← b .read-body .ensures, c .before .judged2 .given .1)
+    let (v, p) = judged-refused (f .before .before .before .before .before .args .slice .now) (b .read-body .ensures) (c .before .judged2 .given .1) in
+    rw (← f .read-frame .ensures .0 .number-is, eq-eqb _ _ (b .before .if1 .left), v, p)
 
 pub read-request-spec : {M : Type 1} → statement M
 read-request-spec =
