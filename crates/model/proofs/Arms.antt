@@ -3,6 +3,7 @@
 use Prim.Native.Nat.{ℕ, _<_}
 use mathlib.Core.Path.{_≡_, refl, sym, ap}
 use native.Mathlib.Nat.{sub-zero}
+use mathlib.Core.List.{List}
 use lib.ListN.{getD}
 use Rattle.text.specs.Whole.{digit}
 use Rattle.frame.specs.Frame.{readFrame}
@@ -11,8 +12,8 @@ use Rattle.commands.specs.declared.request.Load.the-variants as load
 use Rattle.commands.specs.declared.request.Store.{Store}
 use Rattle.commands.specs.declared.request.Store.the-variants as store
 use Rattle.commands.specs.declared.request.Request.the-variants as request
-use Rattle.bodies.specs.declared.body.Judged.{Judged}
-use Rattle.bodies.specs.declared.body.Judged.the-variants as judged
+use Rattle.bodies.specs.Verdict.{Verdict}
+use Rattle.bodies.specs.Verdict as verdict
 use Rattle.bodies.specs.Body.{readBody}
 use Rattle.bodies.specs.Reply.{statusText, outcomeText}
 use Rattle.tables.specs.Tables.{loaded, stored}
@@ -57,15 +58,15 @@ module _ (b : Box) (k : ℕ) (h : Shaped (b .tables)) (l : k < 4) where
   stored-same (store.MemoryBit g v) = search row-same
   stored-same (store.MemoryPort p v) = search row-same
 
-  body-same : (own : ℕ) (j : Judged) → Agrees b k (decideBody k own j) (answerBody own (armOf k b) j)
+  body-same : (slice : List ℕ) (own : ℕ) (j : Verdict) → Agrees b k (decideBody slice k own j) (answerBody slice own (armOf k b) j)
   unfolding perform respond outcomeText statusText digit
-  body-same own (judged.Accepted (request.Load q)) = record { arm = refl; answer = rw (loaded-same q) }
-  body-same own (judged.Accepted (request.Store q)) = record { arm = stored-same q; answer = refl }
-  body-same own (judged.Refused n q) = record { arm = refl; answer = refl }
+  body-same slice own (verdict.Accepted (request.Load q)) = record { arm = refl; answer = rw (loaded-same q) }
+  body-same slice own (verdict.Accepted (request.Store q)) = record { arm = stored-same q; answer = refl }
+  body-same slice own (verdict.Refused n q) = record { arm = refl; answer = refl }
 
   pub same : (c : Call) → Agrees b k (heard k (b .stations) c) (step (getD (b .stations) k 0) (armOf k b) (eventOf c))
   unfolding step perform respond
-  same (serve slice room) = body-same (getD (b .stations) k 0) (readBody (readFrame slice .body))
+  same (serve slice room) = body-same slice (getD (b .stations) k 0) (readBody (readFrame slice .body))
   same (input j p v) = record { arm = search row-same; answer = refl }
 
 -- ---- another slot's
@@ -83,8 +84,8 @@ module _ (b : Box) (k : ℕ) where
 
   pub other : (d : Decision) → (concerns d ≡ at k → ⊥) → armOf k (perform b d) ≡ armOf k b
   unfolding perform
-  other (unanswered n) h = refl
-  other (refused j s n q) h = refl
+  other (unanswered n p) h = refl
+  other (refused j s n p q) h = refl
   other (accepted j s (request.Load l)) h = refl
   other (accepted j s (request.Store q)) h = stored-other j q (λ e. h (ap at (sym e)))
   other (inputSet j p v) h = let ne : k ≡ j → ⊥ = λ e. h (ap at (sym e)) in simp row-other

@@ -41,7 +41,7 @@ store-rule (store.MemoryBit g v) = refl
 store-rule (store.MemoryPort p v) = refl
 
 answered-as : (s : ℕ) (a : Arm) (r : Request)
-    → answerRequest s a r ≡ record { arm = armAfter a r; answer = record { number = 0; reply = frameOf s (outcomeText (ruleFor r .store) (outcomeOf a r)) } }
+    → answerRequest s a r ≡ record { arm = armAfter a r; answer = record { number = 0; position = 0; reply = frameOf s (outcomeText (ruleFor r .store) (outcomeOf a r)) } }
 unfolding outcomeText statusText digit
 answered-as s a (request.Load l) = refl
 answered-as s a (request.Store q) = rw (store-rule q)

@@ -94,15 +94,15 @@ run-stations cs b = run-keeps (λ d. d .stations ≡ b .stations) (λ d c e. aft
 -- ---- a call addressed to no arm
 
 unconcerned : (t : Tables) (d : Decision) → concerns d ≡ nowhere → performTables t d ≡ t
-unconcerned t (unanswered n) e = refl
-unconcerned t (refused k s n q) e = refl
+unconcerned t (unanswered n p) e = refl
+unconcerned t (refused k s n p q) e = refl
 unconcerned t (accepted k s r) e = nowhere-at (sym e)
 unconcerned t (inputSet k p v) e = nowhere-at (sym e)
 
 no-reply : (b : Box) (d : Decision) → concerns d ≡ nowhere → respond b d .reply ≡ []
 unfolding respond
-no-reply b (unanswered n) e = refl
-no-reply b (refused k s n q) e = nowhere-at (sym e)
+no-reply b (unanswered n p) e = refl
+no-reply b (refused k s n p q) e = nowhere-at (sym e)
 no-reply b (accepted k s r) e = nowhere-at (sym e)
 no-reply b (inputSet k p v) e = nowhere-at (sym e)
 

@@ -16,8 +16,8 @@ use Rattle.commands.specs.declared.request.Store.{Store}
 use Rattle.commands.specs.declared.request.Store.the-variants as store
 use Rattle.commands.specs.declared.request.Request.the-variants as request
 use Rattle.commands.specs.Command.{ruleOf}
-use Rattle.bodies.specs.declared.body.Judged.{Judged}
-use Rattle.bodies.specs.declared.body.Judged.the-variants as judged
+use Rattle.bodies.specs.Verdict.{Verdict}
+use Rattle.bodies.specs.Verdict as verdict
 use Rattle.data.specs.Ranges.{inRange}
 use Rattle.bodies.specs.Body.{readBody}
 use Rattle.harl.specs.Message.{judgeRequest}
@@ -71,25 +71,25 @@ stored-in t k (store.MemoryPort p v) e h = search (set-natural, natural-in kind.
 
 -- an accepted request is in range, and an input call brings a byte
 abbrev Sound : Decision → Type 0
-Sound (unanswered n) = Unit
-Sound (refused k s n q) = Unit
+Sound (unanswered n p) = Unit
+Sound (refused k s n p q) = Unit
 Sound (accepted k s r) = judgeRequest r ≡ 0
 Sound (inputSet k p v) = inRange kind.Port (pos v) ≡ true
 
-sound-slot : (s : ℕ) (body : List ℕ) (f : Slot) → Sound (decideSlot s body f)
-sound-slot s body nowhere = tt
-sound-slot s body (at k) = go (readBody body) refl
+sound-slot : (slice : List ℕ) (s : ℕ) (body : List ℕ) (f : Slot) → Sound (decideSlot slice s body f)
+sound-slot slice s body nowhere = tt
+sound-slot slice s body (at k) = go (readBody body) refl
   where
-    go : (j : Judged) → readBody body ≡ j → Sound (decideBody k s j)
-    go (judged.Accepted r) e = accepted-in-range body r e
-    go (judged.Refused n q) e = tt
+    go : (j : Verdict) → readBody body ≡ j → Sound (decideBody slice k s j)
+    go (verdict.Accepted r) e = accepted-in-range body r e
+    go (verdict.Refused n q) e = tt
 
 sound : (st : List ℕ) (c : Call) → bringsByte c ≡ true → Sound (decide st c)
 unfolding decide bringsByte
 sound st (serve slice room) e =
     let o = readFrame slice in
     cond-has Sound (ltb room 64) tt
-    (cond-has Sound (eqb (o .number) 0) (sound-slot (o .station) (o .body) (slotOf st (o .station))) tt)
+    (cond-has Sound (eqb (o .number) 0) (sound-slot slice (o .station) (o .body) (slotOf st (o .station))) tt)
 sound st (input k p v) e =
     cond-has Sound (ltb 3 k) tt
     (cond-has Sound (eqb (getD st k 0) 0) tt
@@ -98,8 +98,8 @@ sound st (input k p v) e =
 -- ---- calls
 
 performed-in : (t : Tables) (d : Decision) → Sound d → InRange t → InRange (performTables t d)
-performed-in t (unanswered n) e h = h
-performed-in t (refused k s n q) e h = h
+performed-in t (unanswered n p) e h = h
+performed-in t (refused k s n p q) e h = h
 performed-in t (accepted k s (request.Load l)) e h = h
 performed-in t (accepted k s (request.Store q)) e h = stored-in t k q e h
 performed-in t (inputSet k p v) e h = search set-natural

@@ -6,11 +6,12 @@ use Rattle.text.specs.Hundredths.{decimals, magnitude, readHundredths, magnitud
 use Rattle.text.specs.Put.{xorOnto}
 use Rattle.frame.specs.Checksum.{lrcOf}
 use Rattle.frame.specs.Fields.{first, more, fields}
-use Rattle.frame.specs.Frame.{stationOf, readInner, readFrame, opening, closing, frameOf}
+use Rattle.frame.specs.Frame.{stationOf, readInner, readFrame, framePosition, opening, closing, frameOf}
 use Rattle.commands.specs.Command.{same, nameOf, among, commandOf}
 use Rattle.data.specs.Ranges.{inRange, eachInRange, allInRange, judge}
 use Rattle.data.specs.Data.{readFields, dataText}
 use Rattle.bodies.specs.Body.{readShape, requestOrRefusal, readBody}
+use Rattle.bodies.specs.Position.{bodyPosition}
 use Rattle.bodies.specs.Reply.{statusText, outcomeText}
 use Rattle.tables.specs.Tables.{loaded, stored, zeros}
 use Rattle.model.specs.Setup.{tooHigh, contains, repeats, setupNumber}
@@ -20,8 +21,8 @@ use Rattle.model.specs.Runs.{replayedTurns, Runs}
 pub runs-hold : Runs
 unfolding until digitsOnto readWhole digit leading shortest padded
     decimals magnitude readHundredths magnitudeText hundredthsText
-    xorOnto lrcOf first more fields stationOf readInner readFrame opening closing frameOf
-    same nameOf among commandOf inRange eachInRange allInRange judge readFields dataText readShape requestOrRefusal readBody statusText outcomeText
+    xorOnto lrcOf first more fields stationOf readInner readFrame framePosition opening closing frameOf
+    same nameOf among commandOf inRange eachInRange allInRange judge readFields dataText readShape requestOrRefusal readBody bodyPosition statusText outcomeText
     loaded stored zeros
     tooHigh contains repeats setupNumber setup scan slotOf decide perform respond after answer replayedTurns
 runs-hold = refl

@@ -39,8 +39,8 @@ shaped-stored t k (store.MemoryBit g v) h = search rows-set
 shaped-stored t k (store.MemoryPort p v) h = search rows-set
 
 shaped-performed : (t : Tables) (d : Decision) → Shaped t → Shaped (performTables t d)
-shaped-performed t (unanswered n) h = h
-shaped-performed t (refused k s n q) h = h
+shaped-performed t (unanswered n p) h = h
+shaped-performed t (refused k s n p q) h = h
 shaped-performed t (accepted k s (request.Load l)) h = h
 shaped-performed t (accepted k s (request.Store q)) h = shaped-stored t k q h
 shaped-performed t (inputSet k p v) h = search rows-set

@@ -10,8 +10,8 @@ use borrow.Author.Tests.{ltb-false, leb-true, eqb-true, eqb-false, not-true, le-
 use lib.ListN.{getD, replicate, getD-replicate}
 use lib.Dec.{ltb, leb, eqb}
 use Rattle.frame.specs.Frame.{Reading, readFrame}
-use Rattle.bodies.specs.declared.body.Judged.{Judged}
-use Rattle.bodies.specs.declared.body.Judged.the-variants as judged
+use Rattle.bodies.specs.Verdict.{Verdict}
+use Rattle.bodies.specs.Verdict as verdict
 use Rattle.bodies.specs.Body.{readBody}
 use Rattle.data.proofs.Bounds.{and-left, and-right}
 use Rattle.model.specs.Call.{Call, serve, input}
@@ -81,30 +81,30 @@ slot-own st k g f =
 -- ---- the slot that a decision concerns is fitted, and the call is addressed to its arm
 
 abbrev pub concerns : Decision → Slot
-concerns (unanswered n) = nowhere
-concerns (refused k s n q) = at k
+concerns (unanswered n p) = nowhere
+concerns (refused k s n p q) = at k
 concerns (accepted k s r) = at k
 concerns (inputSet k p v) = at k
 
-pub body-concerns : (k s : ℕ) (j : Judged) → concerns (decideBody k s j) ≡ at k
-body-concerns k s (judged.Accepted r) = refl
-body-concerns k s (judged.Refused n q) = refl
+pub body-concerns : (slice : List ℕ) (k s : ℕ) (j : Verdict) → concerns (decideBody slice k s j) ≡ at k
+body-concerns slice k s (verdict.Accepted r) = refl
+body-concerns slice k s (verdict.Refused n q) = refl
 
 pub record For (k : ℕ) (st : List ℕ) (t : Bool) : Type 0 where
   pub fitted : Fitted k st
   pub addressed : t ≡ true
 
 module _ (st : List ℕ) (k : ℕ) where
-  frame-for : (o : Reading) → concerns (decideFrame st o) ≡ at k → For k st (eqb (o .number) 0 && eqb (o .station) (getD st k 0))
-  frame-for o e = go (eqb (o .number) 0) (slotOf st (o .station)) _ refl e
+  frame-for : (slice : List ℕ) (o : Reading) → concerns (decideFrame slice st o) ≡ at k → For k st (eqb (o .number) 0 && eqb (o .station) (getD st k 0))
+  frame-for slice o e = go (eqb (o .number) 0) (slotOf st (o .station)) _ _ refl e
     where
-      go : (t : Bool) (f : Slot) (n : ℕ) → slotOf st (o .station) ≡ f
-          → concerns (cond t (decideSlot (o .station) (o .body) f) (unanswered n)) ≡ at k
+      go : (t : Bool) (f : Slot) (n p : ℕ) → slotOf st (o .station) ≡ f
+          → concerns (cond t (decideSlot slice (o .station) (o .body) f) (unanswered n p)) ≡ at k
           → For k st (t && eqb (o .station) (getD st k 0))
-      go false f n ef e′ = nowhere-at e′
-      go true nowhere n ef e′ = nowhere-at e′
-      go true (at j) n ef e′ =
-          let q : j ≡ k = cc (body-concerns j (o .station) (readBody (o .body))) in
+      go false f n p ef e′ = nowhere-at e′
+      go true nowhere n p ef e′ = nowhere-at e′
+      go true (at j) n p ef e′ =
+          let q : j ≡ k = cc (body-concerns slice j (o .station) (readBody (o .body))) in
           let (f, w) = slot-at st (o .station) k (ef ∙ ap at q) in
           record { fitted = f; addressed = eq-eqb (o .station) _ (sym w) }
 
@@ -112,14 +112,14 @@ module _ (st : List ℕ) (k : ℕ) where
   unfolding decide isFor
   concerned (serve slice room) e = go (ltb room 64) refl e
     where
-      go : (t : Bool) → ltb room 64 ≡ t → concerns (cond t (unanswered 1) (decideFrame st (readFrame slice))) ≡ at k
+      go : (t : Bool) → ltb room 64 ≡ t → concerns (cond t (unanswered 1 0) (decideFrame slice st (readFrame slice))) ≡ at k
           → For k st (leb 64 room && (eqb (readFrame slice .number) 0 && eqb (readFrame slice .station) (getD st k 0)))
       go true et e′ = nowhere-at e′
-      go false et e′ = rw (le-leb 64 room (ltb-false room 64 et)) (frame-for (readFrame slice) e′)
+      go false et e′ = rw (le-leb 64 room (ltb-false room 64 et)) (frame-for slice (readFrame slice) e′)
   concerned (input j p v) e = go (ltb 3 j) refl (eqb (getD st j 0) 0) refl (ltb 31 p) refl e
     where
       go : (t₁ : Bool) → ltb 3 j ≡ t₁ → (t₂ : Bool) → eqb (getD st j 0) 0 ≡ t₂ → (t₃ : Bool) → ltb 31 p ≡ t₃
-          → concerns (cond t₁ (unanswered 14) (cond t₂ (unanswered 14) (cond t₃ (unanswered 14) (inputSet j p v)))) ≡ at k
+          → concerns (cond t₁ (unanswered 14 0) (cond t₂ (unanswered 14 0) (cond t₃ (unanswered 14 0) (inputSet j p v)))) ≡ at k
           → For k st (leb j 3 && (not (eqb (getD st j 0) 0) && (leb p 31 && eqb j k)))
       go true e₁ t₂ e₂ t₃ e₃ e′ = nowhere-at e′
       go false e₁ true e₂ t₃ e₃ e′ = nowhere-at e′
@@ -135,7 +135,7 @@ module _ (st : List ℕ) (k : ℕ) where
 -- ---- what is decided of a call that is addressed to slot k's arm
 
 abbrev pub heard : ℕ → List ℕ → Call → Decision
-heard k st (serve slice room) = decideBody k (getD st k 0) (readBody (readFrame slice .body))
+heard k st (serve slice room) = decideBody slice k (getD st k 0) (readBody (readFrame slice .body))
 heard k st (input j p v) = inputSet k p v
 
 pub decided : (st : List ℕ) (k : ℕ) (c : Call) → Apart st → Fitted k st → isFor k st c ≡ true → decide st c ≡ heard k st c

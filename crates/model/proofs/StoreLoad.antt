@@ -514,7 +514,7 @@ module _ (b : Box) (r : Ready b) (k : ℕ) (f : Fitted k (b .stations)) where
   addressed : (w : Write) → Accepts (stationAt b k) w → isFor k (b .stations) (callTo k w) ≡ true
   unfolding isFor readRequest
   addressed (sn slice room q) h =
-      let o = framed (readFrame slice) (stationAt b k) (request.Store q) (h .1) in
+      let o = framed slice (readFrame slice) (stationAt b k) (request.Store q) (h .1) in
       rw (le-leb 64 room (h .0), o .number, o .station) (eq-eqb (stationAt b k) _ refl)
   addressed (wired p v) h =
       rw (le-leb k 3 (omega arith), ne-eqb (stationAt b k) 0 (f .1), le-leb p 31 (h .0)) (eq-eqb k k refl)
@@ -523,13 +523,13 @@ module _ (b : Box) (r : Ready b) (k : ℕ) (f : Fitted k (b .stations)) where
   arm-own : (w : Write) → Accepts (stationAt b k) w → armOf k (after b (callTo k w)) ≡ armWith (armOf k b) w
   unfolding step readRequest
   arm-own (sn slice room q) h =
-      let o = framed (readFrame slice) (stationAt b k) (request.Store q) (h .1) in
+      let o = framed slice (readFrame slice) (stationAt b k) (request.Store q) (h .1) in
       rw (o .body) at (after-same b k (serve slice room) (r .apart) f (r .shaped) (addressed (sn slice room q) h) .0)
   arm-own (wired p v) h = after-same b k (input k p v) (r .apart) f (r .shaped) (addressed (wired p v) h) .0
 
   -- and no other
   concerns-own : (w : Write) → concerns (heard k (b .stations) (callTo k w)) ≡ at k
-  concerns-own (sn slice room q) = body-concerns k (stationAt b k) (readBody (readFrame slice .body))
+  concerns-own (sn slice room q) = body-concerns slice k (stationAt b k) (readBody (readFrame slice .body))
   concerns-own (wired p v) = refl
 
   arm-other : (w : Write) → Accepts (stationAt b k) w → (j : ℕ) → (j ≡ k → ⊥) → armOf j (after b (callTo k w)) ≡ armOf j b
@@ -541,7 +541,7 @@ module _ (b : Box) (r : Ready b) (k : ℕ) (f : Fitted k (b .stations)) where
   ranged : (w : Write) → Accepts (stationAt b k) w → Ranged w
   unfolding readRequest
   ranged (sn slice room q) h =
-      accepted-in-range _ _ (framed (readFrame slice) (stationAt b k) (request.Store q) (h .1) .body)
+      accepted-in-range _ _ (framed slice (readFrame slice) (stationAt b k) (request.Store q) (h .1) .body)
   ranged (wired p v) h = h .0
 
   brings : (w : Write) → Accepts (stationAt b k) w → bringsByte (callTo k w) ≡ true
@@ -564,7 +564,7 @@ module _ (b : Box) (r : Ready b) (k : ℕ) (f : Fitted k (b .stations)) where
 
 -- an LN that cannot be written to station s is refused by its number alone
 told-refused : (b : Box) (k s : ℕ) (l : Load) → stationAt b k ≡ s → eqb (judgeAsked s (request.Load l)) 0 ≡ false
-    → told b k l ≡ noOutcome (judgeAsked s (request.Load l))
+    → told b k l ≡ noOutcome (judgeAsked s (request.Load l)) 0
 unfolding told readReply
 told-refused b k s l e z = rw (e, z)
 

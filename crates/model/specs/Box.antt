@@ -6,11 +6,12 @@ use mathlib.Core.Bool.{Bool, cond}
 use mathlib.Core.List.{List, [], _∷_}
 use lib.ListN.{getD, replicate}
 use lib.Dec.{ltb, eqb}
-use Rattle.frame.specs.Frame.{Reading, readFrame, frameOf}
+use Rattle.frame.specs.Frame.{Reading, readFrame, framePosition, frameOf}
 use Rattle.commands.specs.declared.request.Request.{Request}
-use Rattle.bodies.specs.declared.body.Judged.{Judged}
-use Rattle.bodies.specs.declared.body.Judged.the-variants as judged
+use Rattle.bodies.specs.Verdict.{Verdict}
+use Rattle.bodies.specs.Verdict as verdict
 use Rattle.bodies.specs.Body.{readBody}
+use Rattle.bodies.specs.Position.{bodyPosition}
 use Rattle.bodies.specs.Reply.{performedText, refusalText}
 use Rattle.tables.specs.Tables.{Tables, withInputs, set2, performed, outcomeAt, zeros}
 use Rattle.model.specs.Call.{Call, serve, input, Answer, noReply}
@@ -42,41 +43,43 @@ scan st s (suc m) i = cond (eqb (getD st i 0) s) (at i) (scan st s m (suc i))
 unfoldable pub slotOf : List ℕ → ℕ → Slot
 slotOf st s = cond (eqb s 0) nowhere (scan st s 4 0)
 
--- unanswered: refused with no reply. refused: slot, station, number, whether the name is an SN's. accepted: slot,
--- station, request. inputSet: slot, input port, byte
+-- unanswered: refused with no reply, number, position. refused: slot, station, number, position, whether the name is an
+-- SN's. accepted: slot, station, request. inputSet: slot, input port, byte
 pub data Decision : Type 0 where
-  unanswered : ℕ → Decision
-  refused : ℕ → ℕ → ℕ → Bool → Decision
+  unanswered : ℕ → ℕ → Decision
+  refused : ℕ → ℕ → ℕ → ℕ → Bool → Decision
   accepted : ℕ → ℕ → Request → Decision
   inputSet : ℕ → ℕ → ℕ → Decision
 
--- 9 to 12
-abbrev pub decideBody : ℕ → ℕ → Judged → Decision
-decideBody k s (judged.Accepted r) = accepted k s r
-decideBody k s (judged.Refused n store) = refused k s n store
+-- 9 to 12 of a slice
+abbrev pub decideBody : List ℕ → ℕ → ℕ → Verdict → Decision
+decideBody slice k s (verdict.Accepted r) = accepted k s r
+decideBody slice k s (verdict.Refused n store) = refused k s n (bodyPosition slice n) store
 
 -- 8 ABSENT
-abbrev pub decideSlot : ℕ → List ℕ → Slot → Decision
-decideSlot s body nowhere = unanswered 8
-decideSlot s body (at k) = decideBody k s (readBody body)
+abbrev pub decideSlot : List ℕ → ℕ → List ℕ → Slot → Decision
+decideSlot slice s body nowhere = unanswered 8 0
+decideSlot slice s body (at k) = decideBody slice k s (readBody body)
 
 -- 2 to 7
-abbrev pub decideFrame : List ℕ → Reading → Decision
-decideFrame st o = cond (eqb (o .number) 0) (decideSlot (o .station) (o .body) (slotOf st (o .station))) (unanswered (o .number))
+abbrev pub decideFrame : List ℕ → List ℕ → Reading → Decision
+decideFrame slice st o =
+    cond (eqb (o .number) 0) (decideSlot slice (o .station) (o .body) (slotOf st (o .station)))
+    (unanswered (o .number) (framePosition slice (o .number)))
 
 -- 1 ROOM, then those; 14 INPUT
 unfoldable pub decide : List ℕ → Call → Decision
-decide st (serve slice room) = cond (ltb room 64) (unanswered 1) (decideFrame st (readFrame slice))
+decide st (serve slice room) = cond (ltb room 64) (unanswered 1 0) (decideFrame slice st (readFrame slice))
 decide st (input k port byte) =
-    cond (ltb 3 k) (unanswered 14)
-    (cond (eqb (getD st k 0) 0) (unanswered 14)
-    (cond (ltb 31 port) (unanswered 14) (inputSet k port byte)))
+    cond (ltb 3 k) (unanswered 14 0)
+    (cond (eqb (getD st k 0) 0) (unanswered 14 0)
+    (cond (ltb 31 port) (unanswered 14 0) (inputSet k port byte)))
 
 -- ---- what is done and answered
 
 abbrev pub performTables : Tables → Decision → Tables
-performTables t (unanswered n) = t
-performTables t (refused k s n store) = t
+performTables t (unanswered n p) = t
+performTables t (refused k s n p store) = t
 performTables t (accepted k s r) = performed k r t
 performTables t (inputSet k p v) = withInputs t (set2 (t .inputs) k p v)
 
@@ -84,10 +87,10 @@ unfoldable pub perform : Box → Decision → Box
 perform b d = record { stations = b .stations; tables = performTables (b .tables) d }
 
 unfoldable pub respond : Box → Decision → Answer
-respond b (unanswered n) = noReply n
-respond b (refused k s n store) = record { number = n; reply = frameOf s (refusalText n store) }
-respond b (accepted k s r) = record { number = 0; reply = frameOf s (performedText (outcomeAt k r (b .tables))) }
-respond b (inputSet k p v) = noReply 0
+respond b (unanswered n p) = noReply n p
+respond b (refused k s n p store) = record { number = n; position = p; reply = frameOf s (refusalText n store) }
+respond b (accepted k s r) = record { number = 0; position = 0; reply = frameOf s (performedText (outcomeAt k r (b .tables))) }
+respond b (inputSet k p v) = noReply 0 0
 
 -- the box that a call leaves, and its answer
 unfoldable pub after : Box → Call → Box

@@ -7,11 +7,13 @@ pub data Call : Type 0 where
   serve : List ℕ → ℕ → Call
   input : ℕ → ℕ → ℕ → Call
 
--- the refusal number, 0 for none, and the bytes of the reply, none where there is no reply
+-- the refusal number, 0 for none; the position where the slice is wrong (document 02, E9), 0 where there is none to tell;
+-- and the bytes of the reply, none where there is no reply
 pub record Answer : Type 0 where
   pub number : ℕ
+  pub position : ℕ
   pub reply : List ℕ
 
--- no reply
-abbrev pub noReply : ℕ → Answer
-noReply n = record { number = n; reply = [] }
+-- no reply: the number and the position
+abbrev pub noReply : ℕ → ℕ → Answer
+noReply n p = record { number = n; position = p; reply = [] }

@@ -1,6 +1,6 @@
 -- The lone box (document 01, "Demand 3's list and the lone box"): one arm with its own tables. It is fed the
--- calls addressed to that arm. It shares with the box only the reading of frames and requests, the forming
--- of replies, what a bit of a byte is, and the form of a record with a table for each kind.
+-- calls addressed to that arm. It shares with the box only the reading of frames and requests, where they are
+-- wrong, the forming of replies, what a bit of a byte is, and the form of a record with a table for each kind.
 use Prim.Native.Nat.{ℕ, _-_, _/_, _%_}
 use mathlib.Core.List.{List, [], _∷_}
 use lib.ListN.{getD, set, replicate}
@@ -12,11 +12,12 @@ use Rattle.commands.specs.declared.request.Store.{Store}
 use Rattle.commands.specs.declared.request.Store.the-variants as store
 use Rattle.commands.specs.declared.request.Request.{Request}
 use Rattle.commands.specs.declared.request.Request.the-variants as request
-use Rattle.bodies.specs.declared.body.Judged.{Judged}
-use Rattle.bodies.specs.declared.body.Judged.the-variants as judged
 use Rattle.bodies.specs.declared.reply.Data.{Data}
 use Rattle.bodies.specs.declared.reply.Data.the-variants as held
+use Rattle.bodies.specs.Verdict.{Verdict}
+use Rattle.bodies.specs.Verdict as verdict
 use Rattle.bodies.specs.Body.{readBody}
+use Rattle.bodies.specs.Position.{bodyPosition}
 use Rattle.bodies.specs.Reply.{contentOf, contentText, refusalText, doneText}
 use Rattle.tables.specs.Bits.{bit, withBit}
 use Rattle.tables.specs.Tables.{PerKind, eachField, eachWith, asRow, tables, withTimers, withRegisters, withRows, withInputs, withOutputs, withMemory}
@@ -74,20 +75,20 @@ pub record Step : Type 0 where
 -- an accepted LN replies the data held, an accepted SN "00"
 abbrev pub answerRequest : ℕ → Arm → Request → Step
 answerRequest own a (request.Load l) =
-    record { arm = a; answer = record { number = 0; reply = frameOf own (contentText (contentOf (holds a l))) } }
+    record { arm = a; answer = record { number = 0; position = 0; reply = frameOf own (contentText (contentOf (holds a l))) } }
 answerRequest own a (request.Store q) =
-    record { arm = replaced a q; answer = record { number = 0; reply = frameOf own doneText } }
+    record { arm = replaced a q; answer = record { number = 0; position = 0; reply = frameOf own doneText } }
 
--- a check after 8 refuses: its number and its reply, and nothing changes
-abbrev pub answerBody : ℕ → Arm → Judged → Step
-answerBody own a (judged.Accepted r) = answerRequest own a r
-answerBody own a (judged.Refused n store) =
-    record { arm = a; answer = record { number = n; reply = frameOf own (refusalText n store) } }
+-- a check after 8 refuses the slice: its number, its position and its reply, and nothing changes
+abbrev pub answerBody : List ℕ → ℕ → Arm → Verdict → Step
+answerBody slice own a (verdict.Accepted r) = answerRequest own a r
+answerBody slice own a (verdict.Refused n store) =
+    record { arm = a; answer = record { number = n; position = bodyPosition slice n; reply = frameOf own (refusalText n store) } }
 
 -- the station of the arm, the arm, and what happens
 unfoldable pub step : ℕ → Arm → Event → Step
-step own a (frameIn slice) = answerBody own a (readBody (readFrame slice .body))
-step own a (portIn port byte) = record { arm = withInputs a (set (a .inputs) port byte); answer = noReply 0 }
+step own a (frameIn slice) = answerBody slice own a (readBody (readFrame slice .body))
+step own a (portIn port byte) = record { arm = withInputs a (set (a .inputs) port byte); answer = noReply 0 0 }
 
 unfoldable pub runLone : ℕ → Arm → List Event → Arm
 runLone own a [] = a

@@ -27,13 +27,13 @@ replayedTurns b (t ∷ ts) = record { call = t .call; answer = answer b (t .call
 abbrev pub replayed : Run → Run
 replayed r = record { want = r .want; number = setupNumber (r .want); turns = replayedTurns (setup (r .want)) (r .turns) }
 
--- a request to a station, the number given, and the body of the reply
-abbrev pub asks : ℕ → List ℕ → ℕ → List ℕ → Turn
-asks s body n reply = record { call = serve (frameOf s body) 64; answer = record { number = n; reply = frameOf s reply } }
+-- a request to a station, the number and the position given, and the body of the reply
+abbrev pub asks : ℕ → List ℕ → ℕ → ℕ → List ℕ → Turn
+asks s body n p reply = record { call = serve (frameOf s body) 64; answer = record { number = n; position = p; reply = frameOf s reply } }
 
--- a call that has no reply, and the number given
+-- a call that has no reply, and the number given; there is no position to tell
 abbrev pub gives : Call → ℕ → Turn
-gives c n = record { call = c; answer = noReply n }
+gives c n = record { call = c; answer = noReply n 0 }
 
 -- LND 5
 abbrev pub lnd : List ℕ
@@ -43,11 +43,11 @@ lnd = 76 ∷ 78 ∷ 68 ∷ 32 ∷ 53 ∷ []
 abbrev pub registerTurns : List Turn
 registerTurns =
     -- SND 5 0042: 00
-    asks 1 (83 ∷ 78 ∷ 68 ∷ 32 ∷ 53 ∷ 32 ∷ 48 ∷ 48 ∷ 52 ∷ 50 ∷ []) 0 (48 ∷ 48 ∷ []) ∷
+    asks 1 (83 ∷ 78 ∷ 68 ∷ 32 ∷ 53 ∷ 32 ∷ 48 ∷ 48 ∷ 52 ∷ 50 ∷ []) 0 0 (48 ∷ 48 ∷ []) ∷
     -- LND 5: 0000
-    asks 2 lnd 0 (48 ∷ 48 ∷ 48 ∷ 48 ∷ []) ∷
+    asks 2 lnd 0 0 (48 ∷ 48 ∷ 48 ∷ 48 ∷ []) ∷
     -- LND 5: 0042
-    asks 1 lnd 0 (48 ∷ 48 ∷ 52 ∷ 50 ∷ []) ∷
+    asks 1 lnd 0 0 (48 ∷ 48 ∷ 52 ∷ 50 ∷ []) ∷
     []
 
 -- SNL 99 and data
@@ -58,29 +58,29 @@ snl99 text = 83 ∷ 78 ∷ 76 ∷ 32 ∷ 57 ∷ 57 ∷ 32 ∷ text
 abbrev pub rowTurns : List Turn
 rowTurns =
     -- SNL 99 -9999.99 0.05 9999.99 -0.01: 00
-    asks 1 (snl99 (45 ∷ 57 ∷ 57 ∷ 57 ∷ 57 ∷ 46 ∷ 57 ∷ 57 ∷ 32 ∷ 48 ∷ 46 ∷ 48 ∷ 53 ∷ 32 ∷ 57 ∷ 57 ∷ 57 ∷ 57 ∷ 46 ∷ 57 ∷ 57 ∷ 32 ∷ 45 ∷ 48 ∷ 46 ∷ 48 ∷ 49 ∷ [])) 0 (48 ∷ 48 ∷ []) ∷
+    asks 1 (snl99 (45 ∷ 57 ∷ 57 ∷ 57 ∷ 57 ∷ 46 ∷ 57 ∷ 57 ∷ 32 ∷ 48 ∷ 46 ∷ 48 ∷ 53 ∷ 32 ∷ 57 ∷ 57 ∷ 57 ∷ 57 ∷ 46 ∷ 57 ∷ 57 ∷ 32 ∷ 45 ∷ 48 ∷ 46 ∷ 48 ∷ 49 ∷ [])) 0 0 (48 ∷ 48 ∷ []) ∷
     -- LNL 0: 0.00 0.00 0.00 0.00
-    asks 2 (76 ∷ 78 ∷ 76 ∷ 32 ∷ 48 ∷ []) 0 (48 ∷ 46 ∷ 48 ∷ 48 ∷ 32 ∷ 48 ∷ 46 ∷ 48 ∷ 48 ∷ 32 ∷ 48 ∷ 46 ∷ 48 ∷ 48 ∷ 32 ∷ 48 ∷ 46 ∷ 48 ∷ 48 ∷ []) ∷
+    asks 2 (76 ∷ 78 ∷ 76 ∷ 32 ∷ 48 ∷ []) 0 0 (48 ∷ 46 ∷ 48 ∷ 48 ∷ 32 ∷ 48 ∷ 46 ∷ 48 ∷ 48 ∷ 32 ∷ 48 ∷ 46 ∷ 48 ∷ 48 ∷ 32 ∷ 48 ∷ 46 ∷ 48 ∷ 48 ∷ []) ∷
     -- SNL 99 1 2: 10
-    asks 1 (snl99 (49 ∷ 32 ∷ 50 ∷ [])) 10 (49 ∷ 48 ∷ []) ∷
+    asks 1 (snl99 (49 ∷ 32 ∷ 50 ∷ [])) 10 0 (49 ∷ 48 ∷ []) ∷
     -- SNL 99 1 2 3: 10
-    asks 1 (snl99 (49 ∷ 32 ∷ 50 ∷ 32 ∷ 51 ∷ [])) 10 (49 ∷ 48 ∷ []) ∷
+    asks 1 (snl99 (49 ∷ 32 ∷ 50 ∷ 32 ∷ 51 ∷ [])) 10 0 (49 ∷ 48 ∷ []) ∷
     -- SNL 99 1 2 3 4 5: 10
-    asks 1 (snl99 (49 ∷ 32 ∷ 50 ∷ 32 ∷ 51 ∷ 32 ∷ 52 ∷ 32 ∷ 53 ∷ [])) 10 (49 ∷ 48 ∷ []) ∷
+    asks 1 (snl99 (49 ∷ 32 ∷ 50 ∷ 32 ∷ 51 ∷ 32 ∷ 52 ∷ 32 ∷ 53 ∷ [])) 10 0 (49 ∷ 48 ∷ []) ∷
     -- SNL 99 10000 2 3 4: 10
-    asks 1 (snl99 (49 ∷ 48 ∷ 48 ∷ 48 ∷ 48 ∷ 32 ∷ 50 ∷ 32 ∷ 51 ∷ 32 ∷ 52 ∷ [])) 10 (49 ∷ 48 ∷ []) ∷
+    asks 1 (snl99 (49 ∷ 48 ∷ 48 ∷ 48 ∷ 48 ∷ 32 ∷ 50 ∷ 32 ∷ 51 ∷ 32 ∷ 52 ∷ [])) 10 0 (49 ∷ 48 ∷ []) ∷
     -- SNL 99 1 10000 3 4: 10
-    asks 1 (snl99 (49 ∷ 32 ∷ 49 ∷ 48 ∷ 48 ∷ 48 ∷ 48 ∷ 32 ∷ 51 ∷ 32 ∷ 52 ∷ [])) 10 (49 ∷ 48 ∷ []) ∷
+    asks 1 (snl99 (49 ∷ 32 ∷ 49 ∷ 48 ∷ 48 ∷ 48 ∷ 48 ∷ 32 ∷ 51 ∷ 32 ∷ 52 ∷ [])) 10 0 (49 ∷ 48 ∷ []) ∷
     -- SNL 99 1 2 10000 4: 10
-    asks 1 (snl99 (49 ∷ 32 ∷ 50 ∷ 32 ∷ 49 ∷ 48 ∷ 48 ∷ 48 ∷ 48 ∷ 32 ∷ 52 ∷ [])) 10 (49 ∷ 48 ∷ []) ∷
+    asks 1 (snl99 (49 ∷ 32 ∷ 50 ∷ 32 ∷ 49 ∷ 48 ∷ 48 ∷ 48 ∷ 48 ∷ 32 ∷ 52 ∷ [])) 10 0 (49 ∷ 48 ∷ []) ∷
     -- SNL 99 1 2 3 10000: 10
-    asks 1 (snl99 (49 ∷ 32 ∷ 50 ∷ 32 ∷ 51 ∷ 32 ∷ 49 ∷ 48 ∷ 48 ∷ 48 ∷ 48 ∷ [])) 10 (49 ∷ 48 ∷ []) ∷
+    asks 1 (snl99 (49 ∷ 32 ∷ 50 ∷ 32 ∷ 51 ∷ 32 ∷ 49 ∷ 48 ∷ 48 ∷ 48 ∷ 48 ∷ [])) 10 0 (49 ∷ 48 ∷ []) ∷
     -- LNL 99: -9999.99 0.05 9999.99 -0.01
-    asks 1 (76 ∷ 78 ∷ 76 ∷ 32 ∷ 57 ∷ 57 ∷ []) 0 (45 ∷ 57 ∷ 57 ∷ 57 ∷ 57 ∷ 46 ∷ 57 ∷ 57 ∷ 32 ∷ 48 ∷ 46 ∷ 48 ∷ 53 ∷ 32 ∷ 57 ∷ 57 ∷ 57 ∷ 57 ∷ 46 ∷ 57 ∷ 57 ∷ 32 ∷ 45 ∷ 48 ∷ 46 ∷ 48 ∷ 49 ∷ []) ∷
+    asks 1 (76 ∷ 78 ∷ 76 ∷ 32 ∷ 57 ∷ 57 ∷ []) 0 0 (45 ∷ 57 ∷ 57 ∷ 57 ∷ 57 ∷ 46 ∷ 57 ∷ 57 ∷ 32 ∷ 48 ∷ 46 ∷ 48 ∷ 53 ∷ 32 ∷ 57 ∷ 57 ∷ 57 ∷ 57 ∷ 46 ∷ 57 ∷ 57 ∷ 32 ∷ 45 ∷ 48 ∷ 46 ∷ 48 ∷ 49 ∷ []) ∷
     -- SNL 100 1 2 3 4: 11
-    asks 1 (83 ∷ 78 ∷ 76 ∷ 32 ∷ 49 ∷ 48 ∷ 48 ∷ 32 ∷ 49 ∷ 32 ∷ 50 ∷ 32 ∷ 51 ∷ 32 ∷ 52 ∷ []) 11 (49 ∷ 49 ∷ []) ∷
+    asks 1 (83 ∷ 78 ∷ 76 ∷ 32 ∷ 49 ∷ 48 ∷ 48 ∷ 32 ∷ 49 ∷ 32 ∷ 50 ∷ 32 ∷ 51 ∷ 32 ∷ 52 ∷ []) 11 0 (49 ∷ 49 ∷ []) ∷
     -- LNL 100: E11
-    asks 1 (76 ∷ 78 ∷ 76 ∷ 32 ∷ 49 ∷ 48 ∷ 48 ∷ []) 11 (69 ∷ 49 ∷ 49 ∷ []) ∷
+    asks 1 (76 ∷ 78 ∷ 76 ∷ 32 ∷ 49 ∷ 48 ∷ 48 ∷ []) 11 0 (69 ∷ 49 ∷ 49 ∷ []) ∷
     []
 
 -- slot 2 has arm 3; a signal is a bit of its port
@@ -88,15 +88,15 @@ abbrev pub portTurns : List Turn
 portTurns =
     gives (input 2 31 200) 0 ∷
     -- LNID 31: 200
-    asks 3 (76 ∷ 78 ∷ 73 ∷ 68 ∷ 32 ∷ 51 ∷ 49 ∷ []) 0 (50 ∷ 48 ∷ 48 ∷ []) ∷
+    asks 3 (76 ∷ 78 ∷ 73 ∷ 68 ∷ 32 ∷ 51 ∷ 49 ∷ []) 0 0 (50 ∷ 48 ∷ 48 ∷ []) ∷
     -- SNOB 255 1: 00
-    asks 4 (83 ∷ 78 ∷ 79 ∷ 66 ∷ 32 ∷ 50 ∷ 53 ∷ 53 ∷ 32 ∷ 49 ∷ []) 0 (48 ∷ 48 ∷ []) ∷
+    asks 4 (83 ∷ 78 ∷ 79 ∷ 66 ∷ 32 ∷ 50 ∷ 53 ∷ 53 ∷ 32 ∷ 49 ∷ []) 0 0 (48 ∷ 48 ∷ []) ∷
     -- LNOD 31: 128
-    asks 4 (76 ∷ 78 ∷ 79 ∷ 68 ∷ 32 ∷ 51 ∷ 49 ∷ []) 0 (49 ∷ 50 ∷ 56 ∷ []) ∷
+    asks 4 (76 ∷ 78 ∷ 79 ∷ 68 ∷ 32 ∷ 51 ∷ 49 ∷ []) 0 0 (49 ∷ 50 ∷ 56 ∷ []) ∷
     -- SNBB 272 1: 00
-    asks 4 (83 ∷ 78 ∷ 66 ∷ 66 ∷ 32 ∷ 50 ∷ 55 ∷ 50 ∷ 32 ∷ 49 ∷ []) 0 (48 ∷ 48 ∷ []) ∷
+    asks 4 (83 ∷ 78 ∷ 66 ∷ 66 ∷ 32 ∷ 50 ∷ 55 ∷ 50 ∷ 32 ∷ 49 ∷ []) 0 0 (48 ∷ 48 ∷ []) ∷
     -- LNBD 2: 1
-    asks 4 (76 ∷ 78 ∷ 66 ∷ 68 ∷ 32 ∷ 50 ∷ []) 0 (49 ∷ []) ∷
+    asks 4 (76 ∷ 78 ∷ 66 ∷ 68 ∷ 32 ∷ 50 ∷ []) 0 0 (49 ∷ []) ∷
     []
 
 -- no reply: station 9 is absent, which is judged after its LRC; a room of 63 bytes; no slot 4; no port 32
@@ -114,11 +114,11 @@ abbrev pub inputTurns : List Turn
 inputTurns =
     gives (input 3 31 255) 0 ∷
     -- LNID 31: 255
-    asks 1 (76 ∷ 78 ∷ 73 ∷ 68 ∷ 32 ∷ 51 ∷ 49 ∷ []) 0 (50 ∷ 53 ∷ 53 ∷ []) ∷
+    asks 1 (76 ∷ 78 ∷ 73 ∷ 68 ∷ 32 ∷ 51 ∷ 49 ∷ []) 0 0 (50 ∷ 53 ∷ 53 ∷ []) ∷
     gives (input 0 0 1) 0 ∷
     gives (input 0 0 0) 0 ∷
     -- LNID 0: 0
-    asks 99 (76 ∷ 78 ∷ 73 ∷ 68 ∷ 32 ∷ 48 ∷ []) 0 (48 ∷ []) ∷
+    asks 99 (76 ∷ 78 ∷ 73 ∷ 68 ∷ 32 ∷ 48 ∷ []) 0 0 (48 ∷ []) ∷
     gives (input 1 0 1) 14 ∷
     gives (input 4 0 1) 14 ∷
     []

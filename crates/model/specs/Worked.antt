@@ -18,11 +18,10 @@ use Rattle.commands.specs.declared.request.Store.the-variants.{Register, Row}
 use Rattle.commands.specs.declared.request.Request.{Request}
 use Rattle.commands.specs.declared.request.Request.the-variants.{Load, Store}
 use Rattle.commands.specs.Request.{rowOf}
-use Rattle.bodies.specs.declared.body.Judged.{Judged}
-use Rattle.bodies.specs.declared.body.Judged.the-variants.{Refused}
 use Rattle.bodies.specs.declared.reply.Outcome.{Outcome}
 use Rattle.bodies.specs.declared.reply.Data.the-variants as held
 use Rattle.bodies.specs.declared.reply.Outcome.the-variants.{Data, Status}
+use Rattle.bodies.specs.Verdict.{Verdict, Refused}
 use Rattle.bodies.specs.Body.{readBody}
 use Rattle.harl.specs.Message.{writeRequest, writeReply}
 use Rattle.tables.specs.Place.{placeOf}
@@ -55,7 +54,7 @@ pub data Result : Type 0 where
   amount : Hundredths → Result
   -- a refusal number, 0 for none, and the bytes of a frame
   sent : ℕ → List ℕ → Result
-  verdict : Judged → Result
+  verdict : Verdict → Result
   -- a port and a bit
   place : ℕ → ℕ → Result
 
