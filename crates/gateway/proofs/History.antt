@@ -7,7 +7,7 @@ use native.Mathlib.Omega.{arith}
 use lib.Dec.{ltb, eqb}
 use lib.ListN.{length, getD, take}
 use Rattle.frame.proofs.Writing.{written}
-use Rattle.model.specs.Call.{Call, serve, input, Answer}
+use Rattle.model.specs.Call.{Call, serve, input, Answer, noReply}
 use Rattle.model.specs.Box.{Box, Decision, setup, decide, perform, respond, after, answer, run}
 use Rattle.model.specs.Addressed.{isFor, answersTo, armOf}
 use Rattle.model.specs.Demand3.{Isolated}
@@ -23,11 +23,11 @@ unfolding after perform
 made-box b (served slice before sent t later) p = ap (box (b .stations)) (p .tables-are)
 made-box b (inputMade k port byte n t) p = ap (box (b .stations)) (p .tables-are)
 
--- an input call gets no reply
-input-none : (b : Box) (k port byte : ℕ) → answer b (input k port byte) .reply ≡ []
+-- an input call gets its number alone
+input-none : (b : Box) (k port byte : ℕ) → answer b (input k port byte) ≡ noReply (answer b (input k port byte) .number) 0
 unfolding answer decide respond
 input-none b k port byte =
-    let P : Decision → Type 0 = λ d. respond b d .reply ≡ [] in
+    let P : Decision → Type 0 = λ d. respond b d ≡ noReply (respond b d .number) 0 in
     cond-has P (ltb 3 k) refl (cond-has P (eqb (getD (b .stations) k 0) 0) refl (cond-has P (ltb 31 port) refl refl))
 
 made-answer : (b : Box) (m : Made) → Promised b m → seen m ≡ answer b (callOf m)
@@ -36,9 +36,8 @@ made-answer b (served slice before sent t later) p =
     let w = p .answer-is in
     let end : sent .length ≡ 0 + length (a .reply) = omega (arith, w .length-is) in
     let bytes : take (sent .length) later ≡ a .reply = rw (end, w .area) (written before 0 (a .reply) (omega (arith, w .fits))) in
-    ap₂ (λ n r. record { number = n; reply = r }) (w .number) bytes
-made-answer b (inputMade k port byte n t) p =
-    ap₂ (λ n r. record { number = n; reply = r }) (p .number-is) (sym (input-none b k port byte))
+    rw (w .number, w .position) (ap (λ r. record { number = a .number; position = a .position; reply = r }) bytes)
+made-answer b (inputMade k port byte n t) p = rw (p .number-is) (sym (input-none b k port byte))
 
 -- ---- all of them
 

@@ -27,7 +27,7 @@ pub record InputSet (b : Box) (slot port byte : ℕ) (number : ℕ) (t : Tables)
 
 -- an answer as what a writer gives
 abbrev pub written : Answer → Message
-written a = record { number = a .number; bytes = a .reply }
+written a = record { number = a .number; position = a .position; bytes = a .reply }
 
 -- a serving call: the answer and every table
 pub record Served (b : Box) (slice before : List ℕ) (sent : Sent) (t : Tables) (later : List ℕ) : Type 0 where

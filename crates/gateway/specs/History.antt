@@ -23,10 +23,10 @@ abbrev pub callOf : Made → Call
 callOf (served slice before sent t later) = serve slice (length before)
 callOf (inputMade k port byte n t) = input k port byte
 
--- what the program was answered: the number, and of the area as many bytes as were reported
+-- what the program was answered: the number, the position, and of the area as many bytes as were reported
 abbrev pub seen : Made → Answer
-seen (served slice before sent t later) = record { number = sent .number; reply = take (sent .length) later }
-seen (inputMade k port byte n t) = noReply n
+seen (served slice before sent t later) = record { number = sent .number; position = sent .position; reply = take (sent .length) later }
+seen (inputMade k port byte n t) = noReply n 0
 
 abbrev pub tablesAfter : Made → Tables
 tablesAfter (served slice before sent t later) = t

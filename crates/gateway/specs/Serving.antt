@@ -2,6 +2,7 @@
 use Prim.Native.Nat.{ℕ}
 use mathlib.Core.Path.{_≡_}
 use mathlib.Core.List.{List}
+use Rattle.frame.specs.Frame.{readFrame}
 use Rattle.harl.specs.declared.message.Sent.{Sent}
 use Rattle.bodies.specs.Body.{readBody}
 use Rattle.harl.specs.Message.{Wrote}
@@ -19,7 +20,7 @@ asFound (at k) = found.At k
 abbrev pub foundIn : List ℕ → ℕ → Found
 foundIn st s = asFound (slotOf st s)
 
--- a body that is addressed to slot k: the answer and every table
-pub record BodyServed (k s : ℕ) (body : List ℕ) (t : Tables) (before : List ℕ) (sent : Sent) (t′ : Tables) (later : List ℕ) : Type 0 where
-  pub answer-is : (st : List ℕ) → Wrote (written (respond (box st t) (decideBody k s (readBody body)))) before sent later
-  pub tables-are : t′ ≡ performTables t (decideBody k s (readBody body))
+-- the body of a slice that is addressed to slot k: the answer and every table
+pub record BodyServed (k s : ℕ) (slice : List ℕ) (t : Tables) (before : List ℕ) (sent : Sent) (t′ : Tables) (later : List ℕ) : Type 0 where
+  pub answer-is : (st : List ℕ) → Wrote (written (respond (box st t) (decideBody slice k s (readBody (readFrame slice .body))))) before sent later
+  pub tables-are : t′ ≡ performTables t (decideBody slice k s (readBody (readFrame slice .body)))

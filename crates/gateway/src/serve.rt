@@ -13,7 +13,7 @@ ghost use mathlib.Core.Path.{_≡_};
 ghost use Prim.Native.Nat.{_≤_, _<_};
 ghost use lib.ListN.{length};
 ghost use Rattle.text.specs.Put.{PutAt};
-ghost use Rattle.frame.specs.Frame.{frameOf};
+ghost use Rattle.frame.specs.Frame.{readFrame, frameOf};
 ghost use Rattle.bodies.specs.Reply.{performedText, refusalText};
 ghost use Rattle.tables.specs.Tables.{Tables, tables};
 ghost use Rattle.gateway.specs.Entries.{Served, box};
@@ -72,7 +72,7 @@ fn put_refused(reply: &mut [u8], station: u8, n: u8, store: bool) -> usize
     close_frame(reply, end)
 }
 
-// Serves a body that is addressed to slot's arm: checks 9 to 12, then the request.
+// Serves the body of a slice that is addressed to slot's arm: checks 9 to 12, then the request.
 fn serve_body(
     timers: &mut [[u16; 16]; 4],
     registers: &mut [[u16; 64]; 4],
@@ -85,15 +85,17 @@ fn serve_body(
     memory: &mut [[u8; 16]; 4],
     slot: usize,
     station: u8,
+    slice: &[u8],
     body: &[u8],
     reply: &mut [u8],
 ) -> Sent
     ghost { Tables }
     requires { λ t. ⌜ tables (now timers) (now registers) (now x) (now y) (now z) (now w) (now inputs) (now outputs) (now memory) ≡ t ⌝ }
     requires { λ t. ⌜ (slot < 4) × (64 ≤ length (now reply)) ⌝ }
-    ensures { λ t r. ⌜ BodyServed slot station (now (body .entry)) t (now (reply .entry)) r (tables (now (timers .exit)) (now (registers .exit)) (now (x .exit)) (now (y .exit)) (now (z .exit)) (now (w .exit)) (now (inputs .exit)) (now (outputs .exit)) (now (memory .exit))) (now (reply .exit)) ⌝ }
+    requires { λ t. ⌜ (readFrame (now slice) .number ≡ 0) × (now body ≡ readFrame (now slice) .body) ⌝ }
+    ensures { λ t r. ⌜ BodyServed slot station (now (slice .entry)) t (now (reply .entry)) r (tables (now (timers .exit)) (now (registers .exit)) (now (x .exit)) (now (y .exit)) (now (z .exit)) (now (w .exit)) (now (inputs .exit)) (now (outputs .exit)) (now (memory .exit))) (now (reply .exit)) ⌝ }
 {
-    let judged = read_body(body);
+    let judged = read_body(slice, body);
     match judged {
         Judged::Accepted(request) => {
             let outcome = perform(
@@ -110,11 +112,19 @@ fn serve_body(
                 request,
             );
             let length = put_reply(reply, station, outcome);
-            Sent { number: 0, length }
+            Sent {
+                number: 0,
+                length,
+                position: 0,
+            }
         }
-        Judged::Refused(n, store) => {
+        Judged::Refused(n, store, position) => {
             let length = put_refused(reply, station, n, store);
-            Sent { number: n, length }
+            Sent {
+                number: n,
+                length,
+                position,
+            }
         }
     }
 }
@@ -141,13 +151,19 @@ pub fn serve(
         return Sent {
             number: 1,
             length: 0,
+            position: 0,
         };
     }
     let mut number: u8 = 0;
     let mut station: u8 = 0;
-    let body = read_frame(slice, &mut number, &mut station);
+    let mut position: usize = 0;
+    let body = read_frame(slice, &mut number, &mut station, &mut position);
     if number != 0 {
-        return Sent { number, length: 0 };
+        return Sent {
+            number,
+            length: 0,
+            position,
+        };
     }
     let found = find_slot(stations, station);
     match found {
@@ -163,12 +179,14 @@ pub fn serve(
             memory,
             slot,
             station,
+            slice,
             body,
             reply,
         ),
         Found::Nowhere => Sent {
             number: 8,
             length: 0,
+            position: 0,
         },
     }
 }

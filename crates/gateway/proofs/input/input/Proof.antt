@@ -10,7 +10,7 @@ use Rattle.gateway.specs.Entries.{InputSet}
 use Rattle.gateway.proofs.input.input.Statement.{statement}
 use Rattle.gateway.proofs.input.input.Tie as tie
 
-turns-away : (b : Box) (k p v : ℕ) → decide (b .stations) (input k p v) ≡ unanswered 14 → InputSet b k p v 14 (b .tables)
+turns-away : (b : Box) (k p v : ℕ) → decide (b .stations) (input k p v) ≡ unanswered 14 0 → InputSet b k p v 14 (b .tables)
 unfolding perform respond after answer
 turns-away b k p v e = record { number-is = rw e; tables-are = rw e }
 

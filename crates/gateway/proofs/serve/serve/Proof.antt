@@ -6,7 +6,7 @@ use native.Mathlib.Omega.{arith}
 use borrow.Author.Needs.{needs}
 use borrow.Author.Tests.{lt-ltb, le-ltb, eq-eqb, ne-eqb}
 use lib.ListN.{length}
-use Rattle.frame.specs.Frame.{Read, readFrame}
+use Rattle.frame.specs.Frame.{Read, readFrame, framePosition}
 use Rattle.harl.specs.declared.message.Sent.{Sent}
 use Rattle.bodies.specs.Body.{readBody}
 use Rattle.harl.proofs.Laws.{wrote-none}
@@ -35,27 +35,27 @@ within st s k e = slot-at st s k (found-at (slotOf st s) k e) .0 .0
 
 -- ---- what is decided
 
-no-room : (st slice : List ℕ) (room : ℕ) → room < 64 → decide st (serve slice room) ≡ unanswered 1
+no-room : (st slice : List ℕ) (room : ℕ) → room < 64 → decide st (serve slice room) ≡ unanswered 1 0
 unfolding decide
 no-room st slice room h = rw (lt-ltb room 64 h)
 
 module _ (st slice : List ℕ) (room : ℕ) (h : 64 ≤ room) {n s : ℕ} {body : List ℕ} (r : Read (readFrame slice) n s body) where
-  unread : (n ≡ 0 → ⊥) → decide st (serve slice room) ≡ unanswered n
+  unread : {p : ℕ} → p ≡ framePosition slice n → (n ≡ 0 → ⊥) → decide st (serve slice room) ≡ unanswered n p
   unfolding decide
-  unread z = rw (le-ltb room 64 h, ← r .number-is, ne-eqb n 0 z)
+  unread q z = rw (le-ltb room 64 h, ← r .number-is, ne-eqb n 0 z, q)
 
-  absent : n ≡ 0 → foundIn st s ≡ found.Nowhere → decide st (serve slice room) ≡ unanswered 8
+  absent : n ≡ 0 → foundIn st s ≡ found.Nowhere → decide st (serve slice room) ≡ unanswered 8 0
   unfolding decide
   absent z e = rw (le-ltb room 64 h, ← r .number-is, eq-eqb n 0 z, ← r .station-is, found-none (slotOf st s) e)
 
-  present : n ≡ 0 → (k : ℕ) → foundIn st s ≡ found.At k → decide st (serve slice room) ≡ decideBody k s (readBody body)
+  present : n ≡ 0 → (k : ℕ) → foundIn st s ≡ found.At k → decide st (serve slice room) ≡ decideBody slice k s (readBody (readFrame slice .body))
   unfolding decide
-  present z k e = rw (le-ltb room 64 h, ← r .number-is, eq-eqb n 0 z, ← r .station-is, ← r .body-is, found-at (slotOf st s) k e)
+  present z k e = rw (le-ltb room 64 h, ← r .number-is, eq-eqb n 0 z, ← r .station-is, found-at (slotOf st s) k e)
 
 -- ---- what is served
 
 module _ {st slice xs : List ℕ} {t : Tables} where
-  unanswered-served : {n : ℕ} → decide st (serve slice (length xs)) ≡ unanswered n → Served (box st t) slice xs (record { number = n; length = 0 }) t xs
+  unanswered-served : {n p : ℕ} → decide st (serve slice (length xs)) ≡ unanswered n p → Served (box st t) slice xs (record { number = n; length = 0; position = p }) t xs
   unfolding answer after perform respond
   unanswered-served e =
       record {
@@ -63,7 +63,7 @@ module _ {st slice xs : List ℕ} {t : Tables} where
         tables-are = rw e;
       }
 
-  body-served : {k s : ℕ} {body ys : List ℕ} {sent : Sent} {t′ : Tables} → decide st (serve slice (length xs)) ≡ decideBody k s (readBody body) → BodyServed k s body t xs sent t′ ys → Served (box st t) slice xs sent t′ ys
+  body-served : {k s : ℕ} {ys : List ℕ} {sent : Sent} {t′ : Tables} → decide st (serve slice (length xs)) ≡ decideBody slice k s (readBody (readFrame slice .body)) → BodyServed k s slice t xs sent t′ ys → Served (box st t) slice xs sent t′ ys
   unfolding answer after perform
   body-served e b = record { answer-is = rw e (b .answer-is st); tables-are = rw e (b .tables-are) }
 
@@ -78,9 +78,9 @@ read-frame-requires c κs = search needs
 returns-2 : tie.Need-returns-2
 returns-2 c =
     let f = c .before in
-    let i = f .before .before .before in
+    let i = f .before .before .before .before in
     let a = i .before .before .before .args in
-    unanswered-served (unread (a .stations .now) (a .slice .now) (length (a .reply .now)) (i .if1 .left) (f .read-frame .ensures) (c .if2 .taken))
+    unanswered-served (unread (a .stations .now) (a .slice .now) (length (a .reply .now)) (i .if1 .left) (f .read-frame .ensures .0) (f .read-frame .ensures .1) (c .if2 .taken))
 
 find-slot-requires : tie.Need-find-slot-requires
 find-slot-requires c κs = search needs
@@ -93,9 +93,12 @@ serve-body-requires c κs =
     let p = c .before .before .before .before .before .before .before .before .before .before .before in
     let l = p .before .before in
     let f = l .before .before in
-    let i = f .before .before .before in
+    let i = f .before .before .before .before in
     let a = i .before .before .before .args in
-    (within (a .stations .now) (f .read-frame .last .1 .1 .0) (p .found .given .0 .0) (sym (l .find-slot .ensures) ∙ p .found .given .1), i .if1 .left)
+    let r = f .read-frame .ensures .0 in (
+      (within (a .stations .now) (f .read-frame .last .1 .1 .0) (p .found .given .0 .0) (sym (l .find-slot .ensures) ∙ p .found .given .1), i .if1 .left),
+      (sym (r .number-is) ∙ l .before .if2 .left, r .body-is),
+    )
 
 enum-told : tie.Need-enum-told
 enum-told c = search needs
@@ -109,19 +112,19 @@ returns-3 c =
     let p = b .before .before .before .before .before .before .before .before .before .before .before .before in
     let l = p .before .before in
     let f = l .before .before in
-    let i = f .before .before .before in
+    let i = f .before .before .before .before in
     let a = i .before .before .before .args in
     body-served
-    (present (a .stations .now) (a .slice .now) (length (a .reply .now)) (i .if1 .left) (f .read-frame .ensures) (l .before .if2 .left) (p .found .given .0 .0) (sym (l .find-slot .ensures) ∙ p .found .given .1))
+    (present (a .stations .now) (a .slice .now) (length (a .reply .now)) (i .if1 .left) (f .read-frame .ensures .0) (l .before .if2 .left) (p .found .given .0 .0) (sym (l .find-slot .ensures) ∙ p .found .given .1))
     (b .serve-body .ensures)
 
 returns-4 : tie.Need-returns-4
 returns-4 c =
     let l = c .before .before in
     let f = l .before .before in
-    let i = f .before .before .before in
+    let i = f .before .before .before .before in
     let a = i .before .before .before .args in
-    unanswered-served (absent (a .stations .now) (a .slice .now) (length (a .reply .now)) (i .if1 .left) (f .read-frame .ensures) (l .before .if2 .left) (sym (l .find-slot .ensures) ∙ c .enum-told .given .1))
+    unanswered-served (absent (a .stations .now) (a .slice .now) (length (a .reply .now)) (i .if1 .left) (f .read-frame .ensures .0) (l .before .if2 .left) (sym (l .find-slot .ensures) ∙ c .enum-told .given .1))
 
 pub serve-spec : {M : Type 1} → statement M
 serve-spec =

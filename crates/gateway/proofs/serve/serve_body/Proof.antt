@@ -1,17 +1,18 @@
 -- `b` is where the body was read, `v` what it was judged, `p` where the request was performed, and `w` where the reply was put.
 use Prim.Native.Nat.{ℕ, _≤_}
-use mathlib.Core.Path.{_≡_, sym, _∙_}
+use mathlib.Core.Path.{_≡_}
 use mathlib.Core.Bool.{Bool, true}
 use mathlib.Core.List.{List}
 use native.Mathlib.Omega.{arith}
 use borrow.Author.Needs.{needs}
 use lib.ListN.{length}
 use Rattle.text.specs.Put.{PutAt}
-use Rattle.frame.specs.Frame.{frameOf}
+use Rattle.frame.specs.Frame.{readFrame, frameOf}
 use Rattle.commands.specs.declared.request.Request.{Request}
-use Rattle.bodies.specs.declared.body.Judged.the-variants.{Accepted, Refused}
+use Rattle.bodies.specs.Verdict.{Accepted, Refused}
 use Rattle.bodies.specs.declared.reply.Outcome.{Outcome}
 use Rattle.bodies.specs.Body.{readBody}
+use Rattle.bodies.specs.Position.{bodyPosition}
 use Rattle.bodies.specs.Reply.{performedText, refusalText}
 use Rattle.harl.specs.Message.{Wrote}
 use Rattle.tables.specs.Tables.{Tables, performed, Performed}
@@ -19,16 +20,16 @@ use Rattle.model.specs.Box.{respond}
 use Rattle.gateway.specs.Serving.{BodyServed}
 use Rattle.harl.proofs.Accepted.{accepted-in-range}
 use Rattle.bodies.proofs.Bodies.{outcome-length, performed-text, refusal-length, frame-fits}
-use Rattle.harl.proofs.Laws.{wrote-all}
+use Rattle.harl.proofs.Laws.{judged-accepted, judged-refused, wrote-all}
 use Rattle.gateway.proofs.serve.serve_body.Statement.{statement}
 use Rattle.gateway.proofs.serve.serve_body.Tie as tie
 
 -- what was put at the front of the area is the reply, and had room
-put-wrote : {n m : ℕ} {xs ys : List ℕ} (s : ℕ) (text : List ℕ) → length text ≤ 35 → 64 ≤ length xs → PutAt xs 0 (frameOf s text) m ys → Wrote (record { number = n; bytes = frameOf s text }) xs (record { number = n; length = m }) ys
+put-wrote : {n p m : ℕ} {xs ys : List ℕ} (s : ℕ) (text : List ℕ) → length text ≤ 35 → 64 ≤ length xs → PutAt xs 0 (frameOf s text) m ys → Wrote (record { number = n; position = p; bytes = frameOf s text }) xs (record { number = n; length = m; position = p }) ys
 put-wrote s text short room w = wrote-all w (omega (arith, frame-fits s text (omega arith)))
 
-module _ {k s : ℕ} {body : List ℕ} {t : Tables} {xs ys : List ℕ} {m : ℕ} (room : 64 ≤ length xs) where
-  asked-served : {r : Request} {o : Outcome} {t′ : Tables} → readBody body ≡ Accepted r → Performed k r t t′ o → PutAt xs 0 (frameOf s (performedText o)) m ys → BodyServed k s body t xs (record { number = 0; length = m }) t′ ys
+module _ {k s : ℕ} {slice : List ℕ} {t : Tables} {xs ys : List ℕ} {m : ℕ} (room : 64 ≤ length xs) where
+  asked-served : {r : Request} {o : Outcome} {t′ : Tables} → readBody (readFrame slice .body) ≡ Accepted r → Performed k r t t′ o → PutAt xs 0 (frameOf s (performedText o)) m ys → BodyServed k s slice t xs (record { number = 0; length = m; position = 0 }) t′ ys
   unfolding respond
   asked-served {r} {o} e p w =
       record {
@@ -36,11 +37,11 @@ module _ {k s : ℕ} {body : List ℕ} {t : Tables} {xs ys : List ℕ} {m : ℕ}
         tables-are = rw e (p .tables);
       }
 
-  refused-served : {n : ℕ} {store : Bool} → readBody body ≡ Refused n store → PutAt xs 0 (frameOf s (refusalText n store)) m ys → BodyServed k s body t xs (record { number = n; length = m }) t ys
+  refused-served : {n p : ℕ} {store : Bool} → (readBody (readFrame slice .body) ≡ Refused n store) × (p ≡ bodyPosition slice n) → PutAt xs 0 (frameOf s (refusalText n store)) m ys → BodyServed k s slice t xs (record { number = n; length = m; position = p }) t ys
   unfolding respond
-  refused-served {n} {store} e w =
+  refused-served {n} {p} {store} (e, q) w =
       record {
-        answer-is = λ st. rw e (put-wrote s (refusalText n store) (omega (arith, refusal-length n store)) room w);
+        answer-is = λ st. rw (e, q) (put-wrote s (refusalText n store) (omega (arith, refusal-length n store)) room w);
         tables-are = rw e;
       }
 
@@ -54,8 +55,8 @@ perform-requires : tie.Need-perform-requires
 perform-requires c κs =
     let v = c .before .before .before .before .before .before .before .before .before .before in
     let b = v .before .before in
-    let a = b .before .before .before in
-    (a .pre .0, accepted-in-range (a .args .body .now) (v .judged .given .0 .0) (sym (b .read-body .ensures) ∙ v .judged .given .1))
+    let a = b .before .before .before .before in
+    (a .pre .0 .0, accepted-in-range _ (v .judged .given .0 .0) (judged-accepted (a .args .slice .now) (b .read-body .ensures) (v .judged .given .1)))
 
 put-reply-requires : tie.Need-put-reply-requires
 put-reply-requires c κs = search needs
@@ -75,7 +76,8 @@ returns c =
     let p = w .before .before in
     let v = p .before .before .before .before .before .before .before .before .before .before .before in
     let b = v .before .before in
-    asked-served (b .before .before .before .pre .1) (sym (b .read-body .ensures) ∙ v .judged .given .1) (p .perform .ensures) (w .put-reply .ensures)
+    let a = b .before .before .before .before in
+    asked-served (a .pre .0 .1) (judged-accepted (a .args .slice .now) (b .read-body .ensures) (v .judged .given .1)) (p .perform .ensures) (w .put-reply .ensures)
 
 same-length-2 : tie.Need-same-length-2
 same-length-2 c = search needs
@@ -85,7 +87,8 @@ returns-2 c =
     let w = c .before .before in
     let v = w .before .before .before in
     let b = v .before .before in
-    refused-served (b .before .before .before .pre .1) (sym (b .read-body .ensures) ∙ v .judged2 .given .1) (w .put-refused .ensures)
+    let a = b .before .before .before .before in
+    refused-served (a .pre .0 .1) (judged-refused (a .args .slice .now) (b .read-body .ensures) (v .judged2 .given .1)) (w .put-refused .ensures)
 
 pub serve-body-spec : {M : Type 1} → statement M
 serve-body-spec =
