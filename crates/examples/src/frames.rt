@@ -27,7 +27,8 @@ pub fn read(slice: &[u8]) {
     put_slice(slice);
     let mut number: u8 = 0;
     let mut station: u8 = 0;
-    let body = read_frame(slice, &mut number, &mut station);
+    let mut position: usize = 0;
+    let body = read_frame(slice, &mut number, &mut station, &mut position);
     put_reading(number, station, body);
 }
 

@@ -30,7 +30,7 @@ pub fn read(letter: u8, slice: &[u8]) {
             put_outcome(b": 00 ", outcome);
             put(b"\n");
         }
-        Answered::Refused(number) => put_number(number),
+        Answered::Refused(number, _) => put_number(number),
     }
 }
 

@@ -30,7 +30,7 @@ pub fn read(slice: &[u8]) {
             let mut area = [0xaa; 64];
             write(&mut area, station, request);
         }
-        Asked::Refused(number) => put_number(number),
+        Asked::Refused(number, _) => put_number(number),
     }
 }
 
