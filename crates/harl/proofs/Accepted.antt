@@ -3,6 +3,7 @@ use Prim.Native.Nat.{ℕ}
 use mathlib.Core.Path.{_≡_, refl}
 use mathlib.Core.Bool.{Bool, true, false, cond}
 use mathlib.Core.List.{List, [], _∷_}
+use mathlib.Core.Option.{Option, none, some}
 use native.Mathlib.Omega.{arith}
 use borrow.Author.Tests.{eqb-true}
 use lib.Dec.{eqb}
@@ -16,8 +17,6 @@ use Rattle.commands.specs.declared.request.Row.{Row}
 use Rattle.commands.specs.declared.request.Request.{Request}
 use Rattle.commands.specs.Command.{commandOf, ruleOf}
 use Rattle.commands.specs.Request.{one, builds}
-use Rattle.bodies.specs.declared.body.Shape.{Shape}
-use Rattle.bodies.specs.declared.body.Shape.the-variants as shape
 use Rattle.bodies.specs.Verdict.{Accepted, Refused}
 use Rattle.data.specs.Ranges.{inRange, judge}
 use Rattle.bodies.specs.Body.{readShape, requestOrRefusal, shaped, afterName, ofFields, readBody}
@@ -73,9 +72,9 @@ request-in-range c n row r e = go (eqb (judge (ruleOf c) n row) 0) refl e
         rw same at (built c n row (eqb-true (judge (ruleOf c) n row) 0 p))
     go false p q = never q
 
-shaped-in-range : (c : Command) (s : Shape) (r : Request) → shaped c s ≡ Accepted r → judgeRequest r ≡ 0
-shaped-in-range c (shape.Of n row) r e = request-in-range c n row r e
-shaped-in-range c shape.Malformed r e = never e
+shaped-in-range : (c : Command) (s : Option (ℕ × Row)) (r : Request) → shaped c s ≡ Accepted r → judgeRequest r ≡ 0
+shaped-in-range c (some p) r e = request-in-range c (p .0) (p .1) r e
+shaped-in-range c none r e = never e
 
 named-in-range : (w : Named) (fs : List (List ℕ)) (r : Request) → afterName w fs ≡ Accepted r → judgeRequest r ≡ 0
 named-in-range (Is c) fs r e = shaped-in-range c (readShape (ruleOf c) fs) r e

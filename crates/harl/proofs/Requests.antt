@@ -3,6 +3,7 @@ use Prim.Native.Nat.{ℕ, _+_, _*_, _≤_, _<_}
 use mathlib.Core.Path.{_≡_, refl, ap}
 use mathlib.Core.Bool.{Bool, true, false, _||_}
 use mathlib.Core.List.{List, [], _∷_, _++_, append-nil}
+use mathlib.Core.Option.{some}
 use native.Mathlib.Omega.{arith}
 use borrow.Author.Tests.{ltb-true, ltb-false, eqb-false}
 use lib.Dec.{ltb, eqb}
@@ -26,8 +27,6 @@ use Rattle.commands.specs.declared.request.Store.the-variants as store
 use Rattle.commands.specs.declared.request.Request.{Request}
 use Rattle.commands.specs.declared.request.Request.the-variants as request
 use Rattle.commands.specs.declared.request.Parts.{Parts}
-use Rattle.data.specs.declared.data.Values.the-variants as values
-use Rattle.bodies.specs.declared.body.Shape.the-variants as shape
 use Rattle.bodies.specs.Verdict.{Accepted}
 use Rattle.commands.specs.Command.{nameOf, ruleOf}
 use Rattle.commands.proofs.Names.{name, name-solid}
@@ -112,11 +111,11 @@ number-fields : (t : Bool) (k : Kind) (n : ℕ) (r : Row) → fields (shortest n
 number-fields true k n r = fields-cons (shortest n) (dataText k r) (shortest-solid n)
 number-fields false k n r = rw (append-nil (shortest n)) (fields-one (shortest n) (shortest-solid n))
 
-given-back : (t : Bool) (k : Kind) (r : Row) → allInRange k r ≡ true → dataShape t k (dataFields t k r) ≡ values.Of (given t k r)
+given-back : (t : Bool) (k : Kind) (r : Row) → allInRange k r ≡ true → dataShape t k (dataFields t k r) ≡ some (given t k r)
 given-back true k r e = data-back k r e
 given-back false k r e = refl
 
-shape-back : (rule : Rule) (n : ℕ) (r : Row) → n < 10000 → allInRange (rule .kind) r ≡ true → readShape rule (fields (shortest n ++ dataPart (rule .store) (rule .kind) r)) ≡ shape.Of n (given (rule .store) (rule .kind) r)
+shape-back : (rule : Rule) (n : ℕ) (r : Row) → n < 10000 → allInRange (rule .kind) r ≡ true → readShape rule (fields (shortest n ++ dataPart (rule .store) (rule .kind) r)) ≡ some (n, given (rule .store) (rule .kind) r)
 unfolding readShape
 shape-back rule n r h e =
     rw (number-fields (rule .store) (rule .kind) n r, read-shortest n h, given-back (rule .store) (rule .kind) r e)

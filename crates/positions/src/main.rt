@@ -52,7 +52,7 @@ fn answer_line(
         front(&slice[..], n),
         &mut reply[..],
     );
-    let position: usize = 0; // sent.position
+    let position = sent.position;
     let length = sent.length;
     let mut out = [0u8; 132];
     let end = put_answer(&mut out[..], 0, sent.number, &reply[..length]);
