@@ -5,7 +5,7 @@ use Rattle.text.specs.Whole.{digitsOnto, readWhole, digit, leading, shortest, p
 use Rattle.text.specs.Hundredths.{decimals, magnitude, readHundredths, magnitudeText, hundredthsText}
 use Rattle.text.specs.Put.{xorOnto}
 use Rattle.frame.specs.Checksum.{lrcOf}
-use Rattle.frame.specs.Fields.{first, more, fields}
+use Rattle.frame.specs.Fields.{first, more, fields, placedMore, placed, offending}
 use Rattle.frame.specs.Frame.{stationOf, readInner, readFrame, framePosition, opening, closing, frameOf}
 use Rattle.commands.specs.Command.{same, nameOf, among, commandOf}
 use Rattle.data.specs.Ranges.{inRange, eachInRange, allInRange, judge}
@@ -21,7 +21,7 @@ use Rattle.model.specs.Runs.{replayedTurns, Runs}
 pub runs-hold : Runs
 unfolding until digitsOnto readWhole digit leading shortest padded
     decimals magnitude readHundredths magnitudeText hundredthsText
-    xorOnto lrcOf first more fields stationOf readInner readFrame framePosition opening closing frameOf
+    xorOnto lrcOf first more fields placedMore placed offending stationOf readInner readFrame framePosition opening closing frameOf
     same nameOf among commandOf inRange eachInRange allInRange judge readFields dataText readShape requestOrRefusal readBody bodyPosition statusText outcomeText
     loaded stored zeros
     tooHigh contains repeats setupNumber setup scan slotOf decide perform respond after answer replayedTurns

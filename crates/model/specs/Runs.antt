@@ -35,6 +35,10 @@ asks s body n p reply = record { call = serve (frameOf s body) 64; answer = reco
 abbrev pub gives : Call → ℕ → Turn
 gives c n = record { call = c; answer = noReply n 0 }
 
+-- a call that has no reply, the number given, and where the slice is wrong
+abbrev pub points : Call → ℕ → ℕ → Turn
+points c n p = record { call = c; answer = noReply n p }
+
 -- LND 5
 abbrev pub lnd : List ℕ
 lnd = 76 ∷ 78 ∷ 68 ∷ 32 ∷ 53 ∷ []
@@ -62,25 +66,56 @@ rowTurns =
     -- LNL 0: 0.00 0.00 0.00 0.00
     asks 2 (76 ∷ 78 ∷ 76 ∷ 32 ∷ 48 ∷ []) 0 0 (48 ∷ 46 ∷ 48 ∷ 48 ∷ 32 ∷ 48 ∷ 46 ∷ 48 ∷ 48 ∷ 32 ∷ 48 ∷ 46 ∷ 48 ∷ 48 ∷ 32 ∷ 48 ∷ 46 ∷ 48 ∷ 48 ∷ []) ∷
     -- SNL 99 1 2: 10
-    asks 1 (snl99 (49 ∷ 32 ∷ 50 ∷ [])) 10 0 (49 ∷ 48 ∷ []) ∷
+    asks 1 (snl99 (49 ∷ 32 ∷ 50 ∷ [])) 10 13 (49 ∷ 48 ∷ []) ∷
     -- SNL 99 1 2 3: 10
-    asks 1 (snl99 (49 ∷ 32 ∷ 50 ∷ 32 ∷ 51 ∷ [])) 10 0 (49 ∷ 48 ∷ []) ∷
+    asks 1 (snl99 (49 ∷ 32 ∷ 50 ∷ 32 ∷ 51 ∷ [])) 10 15 (49 ∷ 48 ∷ []) ∷
     -- SNL 99 1 2 3 4 5: 10
-    asks 1 (snl99 (49 ∷ 32 ∷ 50 ∷ 32 ∷ 51 ∷ 32 ∷ 52 ∷ 32 ∷ 53 ∷ [])) 10 0 (49 ∷ 48 ∷ []) ∷
+    asks 1 (snl99 (49 ∷ 32 ∷ 50 ∷ 32 ∷ 51 ∷ 32 ∷ 52 ∷ 32 ∷ 53 ∷ [])) 10 18 (49 ∷ 48 ∷ []) ∷
     -- SNL 99 10000 2 3 4: 10
-    asks 1 (snl99 (49 ∷ 48 ∷ 48 ∷ 48 ∷ 48 ∷ 32 ∷ 50 ∷ 32 ∷ 51 ∷ 32 ∷ 52 ∷ [])) 10 0 (49 ∷ 48 ∷ []) ∷
+    asks 1 (snl99 (49 ∷ 48 ∷ 48 ∷ 48 ∷ 48 ∷ 32 ∷ 50 ∷ 32 ∷ 51 ∷ 32 ∷ 52 ∷ [])) 10 10 (49 ∷ 48 ∷ []) ∷
     -- SNL 99 1 10000 3 4: 10
-    asks 1 (snl99 (49 ∷ 32 ∷ 49 ∷ 48 ∷ 48 ∷ 48 ∷ 48 ∷ 32 ∷ 51 ∷ 32 ∷ 52 ∷ [])) 10 0 (49 ∷ 48 ∷ []) ∷
+    asks 1 (snl99 (49 ∷ 32 ∷ 49 ∷ 48 ∷ 48 ∷ 48 ∷ 48 ∷ 32 ∷ 51 ∷ 32 ∷ 52 ∷ [])) 10 12 (49 ∷ 48 ∷ []) ∷
     -- SNL 99 1 2 10000 4: 10
-    asks 1 (snl99 (49 ∷ 32 ∷ 50 ∷ 32 ∷ 49 ∷ 48 ∷ 48 ∷ 48 ∷ 48 ∷ 32 ∷ 52 ∷ [])) 10 0 (49 ∷ 48 ∷ []) ∷
+    asks 1 (snl99 (49 ∷ 32 ∷ 50 ∷ 32 ∷ 49 ∷ 48 ∷ 48 ∷ 48 ∷ 48 ∷ 32 ∷ 52 ∷ [])) 10 14 (49 ∷ 48 ∷ []) ∷
     -- SNL 99 1 2 3 10000: 10
-    asks 1 (snl99 (49 ∷ 32 ∷ 50 ∷ 32 ∷ 51 ∷ 32 ∷ 49 ∷ 48 ∷ 48 ∷ 48 ∷ 48 ∷ [])) 10 0 (49 ∷ 48 ∷ []) ∷
+    asks 1 (snl99 (49 ∷ 32 ∷ 50 ∷ 32 ∷ 51 ∷ 32 ∷ 49 ∷ 48 ∷ 48 ∷ 48 ∷ 48 ∷ [])) 10 16 (49 ∷ 48 ∷ []) ∷
     -- LNL 99: -9999.99 0.05 9999.99 -0.01
     asks 1 (76 ∷ 78 ∷ 76 ∷ 32 ∷ 57 ∷ 57 ∷ []) 0 0 (45 ∷ 57 ∷ 57 ∷ 57 ∷ 57 ∷ 46 ∷ 57 ∷ 57 ∷ 32 ∷ 48 ∷ 46 ∷ 48 ∷ 53 ∷ 32 ∷ 57 ∷ 57 ∷ 57 ∷ 57 ∷ 46 ∷ 57 ∷ 57 ∷ 32 ∷ 45 ∷ 48 ∷ 46 ∷ 48 ∷ 49 ∷ []) ∷
     -- SNL 100 1 2 3 4: 11
-    asks 1 (83 ∷ 78 ∷ 76 ∷ 32 ∷ 49 ∷ 48 ∷ 48 ∷ 32 ∷ 49 ∷ 32 ∷ 50 ∷ 32 ∷ 51 ∷ 32 ∷ 52 ∷ []) 11 0 (49 ∷ 49 ∷ []) ∷
+    asks 1 (83 ∷ 78 ∷ 76 ∷ 32 ∷ 49 ∷ 48 ∷ 48 ∷ 32 ∷ 49 ∷ 32 ∷ 50 ∷ 32 ∷ 51 ∷ 32 ∷ 52 ∷ []) 11 7 (49 ∷ 49 ∷ []) ∷
     -- LNL 100: E11
-    asks 1 (76 ∷ 78 ∷ 76 ∷ 32 ∷ 49 ∷ 48 ∷ 48 ∷ []) 11 0 (69 ∷ 49 ∷ 49 ∷ []) ∷
+    asks 1 (76 ∷ 78 ∷ 76 ∷ 32 ∷ 49 ∷ 48 ∷ 48 ∷ []) 11 7 (69 ∷ 49 ∷ 49 ∷ []) ∷
+    []
+
+-- each refusal that tells where the slice is wrong (document 02, E9); STX stands at 0
+abbrev pub pointedTurns : List Turn
+pointedTurns =
+    -- L, 1Fh, 7Fh: the first stray byte
+    points (serve (frameOf 1 (76 ∷ 31 ∷ 127 ∷ [])) 64) 6 4 ∷
+    -- station 0
+    points (serve (frameOf 0 lnd) 64) 7 1 ∷
+    -- lnd 5: E09 at the name
+    asks 1 (108 ∷ 110 ∷ 100 ∷ 32 ∷ 53 ∷ []) 9 3 (69 ∷ 48 ∷ 57 ∷ []) ∷
+    -- an empty name, which SP ends
+    asks 1 (32 ∷ 76 ∷ 78 ∷ 68 ∷ 32 ∷ 53 ∷ []) 9 3 (69 ∷ 48 ∷ 57 ∷ []) ∷
+    -- LND: no number, so that ETX offends
+    asks 1 (76 ∷ 78 ∷ 68 ∷ []) 10 6 (69 ∷ 49 ∷ 48 ∷ []) ∷
+    -- SND  x: the number is empty, and stands at the SP that ends it
+    asks 1 (83 ∷ 78 ∷ 68 ∷ 32 ∷ 32 ∷ 120 ∷ []) 10 7 (49 ∷ 48 ∷ []) ∷
+    -- LND x y z: a malformed field comes before a surplus one
+    asks 1 (76 ∷ 78 ∷ 68 ∷ 32 ∷ 120 ∷ 32 ∷ 121 ∷ 32 ∷ 122 ∷ []) 10 7 (69 ∷ 49 ∷ 48 ∷ []) ∷
+    -- LND 5 x: a surplus field in any form
+    asks 1 (76 ∷ 78 ∷ 68 ∷ 32 ∷ 53 ∷ 32 ∷ 120 ∷ []) 10 9 (69 ∷ 49 ∷ 48 ∷ []) ∷
+    -- LND 5 and SP: an empty surplus field, which ETX ends
+    asks 1 (76 ∷ 78 ∷ 68 ∷ 32 ∷ 53 ∷ 32 ∷ []) 10 9 (69 ∷ 49 ∷ 48 ∷ []) ∷
+    -- SND 64 x: the form of the data comes before the range of the number
+    asks 1 (83 ∷ 78 ∷ 68 ∷ 32 ∷ 54 ∷ 52 ∷ 32 ∷ 120 ∷ []) 10 10 (49 ∷ 48 ∷ []) ∷
+    -- SND 64 99999
+    asks 1 (83 ∷ 78 ∷ 68 ∷ 32 ∷ 54 ∷ 52 ∷ 32 ∷ 57 ∷ 57 ∷ 57 ∷ 57 ∷ 57 ∷ []) 10 10 (49 ∷ 48 ∷ []) ∷
+    -- SNOB 256 2: the number before the data
+    asks 1 (83 ∷ 78 ∷ 79 ∷ 66 ∷ 32 ∷ 50 ∷ 53 ∷ 54 ∷ 32 ∷ 50 ∷ []) 11 8 (49 ∷ 49 ∷ []) ∷
+    -- SNOB 255 2
+    asks 1 (83 ∷ 78 ∷ 79 ∷ 66 ∷ 32 ∷ 50 ∷ 53 ∷ 53 ∷ 32 ∷ 50 ∷ []) 12 12 (49 ∷ 50 ∷ []) ∷
     []
 
 -- slot 2 has arm 3; a signal is a bit of its port
@@ -123,12 +158,16 @@ inputTurns =
     gives (input 4 0 1) 14 ∷
     []
 
+-- an empty name, which ETX ends: E09 there
+abbrev pub emptyTurns : List Turn
+emptyTurns = asks 99 [] 9 4 (69 ∷ 48 ∷ 57 ∷ []) ∷ []
+
 abbrev pub runs : List Run
 runs =
     -- four arms
-    record { want = 1 ∷ 2 ∷ 3 ∷ 4 ∷ []; number = 0; turns = registerTurns ++ (rowTurns ++ (portTurns ++ unansweredTurns)) } ∷
+    record { want = 1 ∷ 2 ∷ 3 ∷ 4 ∷ []; number = 0; turns = registerTurns ++ (rowTurns ++ (portTurns ++ (pointedTurns ++ unansweredTurns))) } ∷
     -- the highest station and the lowest, in the first slot and the last
-    record { want = 99 ∷ 0 ∷ 0 ∷ 1 ∷ []; number = 0; turns = inputTurns } ∷
+    record { want = 99 ∷ 0 ∷ 0 ∷ 1 ∷ []; number = 0; turns = inputTurns ++ emptyTurns } ∷
     -- one arm, in slot 1
     record { want = 0 ∷ 7 ∷ 0 ∷ 0 ∷ []; number = 0; turns = gives (input 0 0 1) 14 ∷ gives (input 1 0 1) 0 ∷ [] } ∷
     -- station 1 twice, so that no arm is fitted

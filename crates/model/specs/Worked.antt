@@ -5,10 +5,9 @@ use Prim.Native.Nat.{ℕ}
 use mathlib.Core.Path.{_≡_}
 use mathlib.Core.Bool.{true}
 use mathlib.Core.List.{List, [], _∷_, map}
+use mathlib.Core.Option.{Option, none, some}
 use lib.IntN.{ℤ, pos, negℤ}
 use lib.ListN.{replicate}
-use Rattle.text.specs.declared.hundredths.Hundredths.{Hundredths}
-use Rattle.text.specs.declared.hundredths.Hundredths.the-variants.{Value, Malformed}
 use Rattle.text.specs.Hundredths.{readHundredths, hundredthsText}
 use Rattle.frame.specs.Checksum.{lrcOf}
 use Rattle.frame.specs.Frame.{frameOf}
@@ -51,7 +50,7 @@ pub data Question : Type 0 where
 pub data Result : Type 0 where
   bytes : List ℕ → Result
   byte : ℕ → Result
-  amount : Hundredths → Result
+  amount : Option ℤ → Result
   -- a refusal number, 0 for none, and the bytes of a frame
   sent : ℕ → List ℕ → Result
   verdict : Verdict → Result
@@ -90,15 +89,15 @@ worked =
     -- P2 served
     ∷ (serving (0x02 ∷ 0x32 ∷ 0x20 ∷ 0x53 ∷ 0x4E ∷ 0x44 ∷ 0x20 ∷ 0x36 ∷ 0x33 ∷ 0x20 ∷ 0x30 ∷ 0x30 ∷ 0x34 ∷ 0x32 ∷ 0x03 ∷ 0x4B ∷ []), sent 0 (0x02 ∷ 0x32 ∷ 0x20 ∷ 0x30 ∷ 0x30 ∷ 0x03 ∷ 0x11 ∷ []))
     -- P3: "-0.05"
-    ∷ (reading (0x2D ∷ 0x30 ∷ 0x2E ∷ 0x30 ∷ 0x35 ∷ []), amount (Value (negℤ (pos 5))))
+    ∷ (reading (0x2D ∷ 0x30 ∷ 0x2E ∷ 0x30 ∷ 0x35 ∷ []), amount (some (negℤ (pos 5))))
     -- P4: "-0"
-    ∷ (reading (0x2D ∷ 0x30 ∷ []), amount (Value (pos 0)))
+    ∷ (reading (0x2D ∷ 0x30 ∷ []), amount (some (pos 0)))
     -- P5: "12.5"
-    ∷ (reading (0x31 ∷ 0x32 ∷ 0x2E ∷ 0x35 ∷ []), amount (Value (pos 1250)))
+    ∷ (reading (0x31 ∷ 0x32 ∷ 0x2E ∷ 0x35 ∷ []), amount (some (pos 1250)))
     -- P6: "-9999.99"
-    ∷ (reading (0x2D ∷ 0x39 ∷ 0x39 ∷ 0x39 ∷ 0x39 ∷ 0x2E ∷ 0x39 ∷ 0x39 ∷ []), amount (Value (negℤ (pos 999999))))
+    ∷ (reading (0x2D ∷ 0x39 ∷ 0x39 ∷ 0x39 ∷ 0x39 ∷ 0x2E ∷ 0x39 ∷ 0x39 ∷ []), amount (some (negℤ (pos 999999))))
     -- P7: "10000"
-    ∷ (reading (0x31 ∷ 0x30 ∷ 0x30 ∷ 0x30 ∷ 0x30 ∷ []), amount Malformed)
+    ∷ (reading (0x31 ∷ 0x30 ∷ 0x30 ∷ 0x30 ∷ 0x30 ∷ []), amount none)
     -- P7 as an offset, "SNL 0 10000 0 0 0": SHAPE of an SN
     ∷ (judging (0x53 ∷ 0x4E ∷ 0x4C ∷ 0x20 ∷ 0x30 ∷ 0x20 ∷ 0x31 ∷ 0x30 ∷ 0x30 ∷ 0x30 ∷ 0x30 ∷ 0x20 ∷ 0x30 ∷ 0x20 ∷ 0x30 ∷ 0x20 ∷ 0x30 ∷ []), verdict (Refused 10 true))
     -- P8: "SNT 0 10.00": VALUE of an SN
