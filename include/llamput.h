@@ -23,10 +23,13 @@
 extern "C" {
 #endif
 
-// What serving returns: the refusal number, or 0, and how many bytes of reply were written.
+// What serving returns: the refusal number, or 0; how many bytes of reply were written; and the position where a refused
+// slice is wrong, an offset in it: 6 the first stray byte, 7 the station, 9 the command, 10 the first malformed field, else
+// the first surplus one, else ETX, 11 the number, 12 the datum. For any other number it is 0.
 struct llamput_sent {
     uint8_t number;
     size_t length;
+    size_t position;
 };
 
 // Sets up a new box, whatever the memory held: every table zero, each slot with its station from want, 0 for none.

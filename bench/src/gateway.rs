@@ -6,6 +6,7 @@ use crate::reference::{Sent, Tables};
 struct LlamputSent {
     number: u8,
     length: usize,
+    position: usize,
 }
 
 extern "C" {

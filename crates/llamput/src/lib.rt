@@ -2,7 +2,7 @@
 // names with the library's prefix, each with the contract of its entry.
 //
 // A table is a pointer to its first element. A slice is a pointer and a length. The answer of serving is
-// returned as a struct of a byte and a size. The caller owns all memory, and no two areas overlap.
+// returned as a struct of a byte and two sizes. The caller owns all memory, and no two areas overlap.
 pub mod setup; // setup.rt: a new box
 pub mod serve; // serve.rt: a frame served
 pub mod input; // input.rt: an input port set
