@@ -25,7 +25,7 @@ pub fn read_as_hundredths(text: &[u8]) {
     let h = read.hundredths;
     match h {
         Hundredths::Value(v) => put_signed(v),
-        Hundredths::Malformed => put(b"malformed"),
+        Hundredths::Malformed(_) => put(b"malformed"),
     }
     put(b"\n");
 }
@@ -36,7 +36,7 @@ pub fn read_as_whole(text: &[u8]) {
     let w = read.whole;
     match w {
         Whole::Value(v) => put_whole(v as u64),
-        Whole::Malformed => put(b"malformed"),
+        Whole::Malformed(_) => put(b"malformed"),
     }
     put(b"\n");
 }

@@ -28,7 +28,7 @@ fn number(line: &[u8], k: usize) -> u16 {
     let w = read.whole;
     match w {
         Whole::Value(v) => v,
-        Whole::Malformed => 0,
+        Whole::Malformed(_) => 0,
     }
 }
 
