@@ -5,6 +5,7 @@ use frame::writer::open_frame;
 use print::front;
 use print::put;
 use print::put_bytes;
+use print::put_position;
 use print::put_slice;
 use print::put_text;
 use print::put_two;
@@ -12,14 +13,14 @@ use print::put_untouched;
 use print::put_whole;
 
 // What the reader answered: the number, the station and the body.
-fn put_reading(number: u8, station: u8, body: &[u8]) {
+fn put_reading(number: u8, station: u8, body: &[u8], position: usize) {
     put(b": ");
     put_two(number);
     put(b" ");
     put_whole(station as u64);
     put(b" ");
     put_text(body);
-    put(b"\n");
+    put_position(position);
 }
 
 pub fn read(slice: &[u8]) {
@@ -29,7 +30,7 @@ pub fn read(slice: &[u8]) {
     let mut station: u8 = 0;
     let mut position: usize = 0;
     let body = read_frame(slice, &mut number, &mut station, &mut position);
-    put_reading(number, station, body);
+    put_reading(number, station, body, position);
 }
 
 // A frame of station 1 that is sound but for its length, 256 bytes; and the longest frame, 255 bytes.

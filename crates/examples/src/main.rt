@@ -152,8 +152,10 @@ fn main() {
           PW\0\
           PG\0\
           PI\0\
-          # Check 5 of the slice, and check 15: another station, data out of range or of a wrong form.\0\
+          # Checks 5 to 7 of the slice, and check 15: another station, data out of range or of a wrong form.\0\
           PI\x021 9.99\x03\x04\0\
+          PI\x021 \x1f9\x034\0\
+          PI\x0201 9\x03\x1b\0\
           PI\x022 9.99\x03\x06\0\
           PI\x021 10.00\x03\x3d\0\
           PI\x021 x\x03\x6a\0\

@@ -10,7 +10,7 @@ use harl::message::read_reply;
 use harl::message::write_reply;
 use print::front;
 use print::put;
-use print::put_number;
+use print::put_refusal;
 use print::put_slice;
 use print::put_written;
 
@@ -30,7 +30,7 @@ pub fn read(letter: u8, slice: &[u8]) {
             put_outcome(b": 00 ", outcome);
             put(b"\n");
         }
-        Answered::Refused(number, _) => put_number(number),
+        Answered::Refused(number, position) => put_refusal(number, position),
     }
 }
 

@@ -6,7 +6,7 @@ use harl::message::Asked;
 use harl::message::read_request;
 use harl::message::write_request;
 use print::put;
-use print::put_number;
+use print::put_refusal;
 use print::put_slice;
 use print::put_written;
 
@@ -30,7 +30,7 @@ pub fn read(slice: &[u8]) {
             let mut area = [0xaa; 64];
             write(&mut area, station, request);
         }
-        Asked::Refused(number, _) => put_number(number),
+        Asked::Refused(number, position) => put_refusal(number, position),
     }
 }
 

@@ -8,14 +8,7 @@ use lines::reader::read_line;
 use lines::writer::put_answer;
 use print::front;
 use print::put;
-use print::put_whole;
-
-// Prints the position, and the LF that ends the line.
-fn put_position(position: usize) {
-    put(b" @");
-    put_whole(position as u64);
-    put(b"\n");
-}
+use print::put_position;
 
 // Serves a line, and prints its answer as `cell` does, with the position before its LF. A line that is no call has
 // none.

@@ -122,11 +122,18 @@ pub fn put_written(number: u8, length: usize, none: &[u8], area: &[u8]) {
     put_untouched(area);
 }
 
-// The rest of a line that ends with a number of two digits.
-pub fn put_number(number: u8) {
+// The position in a slice, and the end of the line.
+pub fn put_position(position: usize) {
+    put(b" @");
+    put_whole(position as u64);
+    put(b"\n");
+}
+
+// The rest of a line about a slice that was refused: the number, with two digits, and the position.
+pub fn put_refusal(number: u8, position: usize) {
     put(b": ");
     put_two(number);
-    put(b"\n");
+    put_position(position);
 }
 
 // How many times a byte stands in s.
