@@ -14,7 +14,8 @@ use Rattle.commands.specs.declared.command.Kind.{Kind}
 use Rattle.commands.specs.declared.command.Rule.{Rule}
 use Rattle.commands.specs.declared.request.Row.{Row}
 use Rattle.commands.specs.declared.request.Parts.{Parts}
-use Rattle.bodies.specs.Verdict.{Verdict, Accepted, Refused}
+use Rattle.bodies.specs.declared.body.Judged.{Judged}
+use Rattle.bodies.specs.declared.body.Judged.the-variants.{Accepted, Refused}
 use Rattle.commands.specs.Command.{commandOf, nameOf, ruleOf}
 use Rattle.commands.specs.Request.{one, builds}
 use Rattle.data.specs.Ranges.{judge}
@@ -37,26 +38,26 @@ readShape rule [] = none
 readShape rule (n ∷ fs) = numbered (readWhole n) (dataShape (rule .store) (rule .kind) fs)
 
 -- 11 NUMBER, 12 VALUE, or the request
-unfoldable pub requestOrRefusal : Command → ℕ → Row → Verdict
+unfoldable pub requestOrRefusal : Command → ℕ → Row → Judged
 requestOrRefusal c n r =
     cond (eqb (judge (ruleOf c) n r) 0) (Accepted (builds c n r)) (Refused (judge (ruleOf c) n r) (ruleOf c .store))
 
 -- 10 SHAPE, then those
-abbrev pub shaped : Command → Option (ℕ × Row) → Verdict
+abbrev pub shaped : Command → Option (ℕ × Row) → Judged
 shaped c (some p) = requestOrRefusal c (p .0) (p .1)
 shaped c none = Refused 10 (ruleOf c .store)
 
 -- 9 COMMAND, then those
-abbrev pub afterName : Named → List (List ℕ) → Verdict
+abbrev pub afterName : Named → List (List ℕ) → Judged
 afterName (Is c) fs = shaped c (readShape (ruleOf c) fs)
 afterName Unknown fs = Refused 9 false
 
-abbrev pub ofFields : List (List ℕ) → Verdict
+abbrev pub ofFields : List (List ℕ) → Judged
 ofFields [] = Refused 9 false
 ofFields (name ∷ fs) = afterName (commandOf name) fs
 
 -- a body as a request: checks 9 to 12, in their order
-unfoldable pub readBody : List ℕ → Verdict
+unfoldable pub readBody : List ℕ → Judged
 readBody s = ofFields (fields s)
 
 -- SP and the data, for an SN

@@ -1,4 +1,3 @@
-pub mod Verdict
 pub mod Body
 pub mod Position
 pub mod Reply

@@ -19,8 +19,7 @@ use Rattle.bodies.specs.declared.body.Shape.{Shape}
 use Rattle.bodies.specs.declared.body.Shape.the-variants as shape
 use Rattle.bodies.specs.declared.body.Judged.{Judged}
 use Rattle.bodies.specs.declared.body.Judged.the-variants as judged
-use Rattle.bodies.specs.Verdict.{Verdict}
-use Rattle.bodies.specs.Verdict as verdict
+use Rattle.bodies.specs.declared.body.JudgedBody.{JudgedBody}
 use Rattle.bodies.specs.Body.{readShape}
 
 -- a test for each field that a command expects after its name: that it is in its form, and that its value is in range
@@ -59,7 +58,11 @@ shapeIn rule s i =
     (offending (length s) (forms rule) (placed i (drop i s)))
     (readShape rule (fields (drop i s)))
 
+-- a body that is refused at a position
+abbrev pub refusedAt : ℕ → Bool → ℕ → JudgedBody
+refusedAt n store position = record { judged = judged.Refused n store; position = position }
+
 -- a body, where refusal n stands at a position
-abbrev pub judgedAt : (ℕ → ℕ) → Verdict → Judged
-judgedAt position (verdict.Accepted r) = judged.Accepted r
-judgedAt position (verdict.Refused n store) = judged.Refused n store (position n)
+abbrev pub judgedAt : (ℕ → ℕ) → Judged → JudgedBody
+judgedAt position (judged.Accepted r) = record { judged = judged.Accepted r; position = 0 }
+judgedAt position (judged.Refused n store) = refusedAt n store (position n)

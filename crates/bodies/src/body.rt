@@ -28,7 +28,7 @@ ghost use Rattle.frame.specs.Fields.{placed};
 ghost use Rattle.frame.specs.Frame.{readFrame};
 ghost use Rattle.commands.specs.Command.{ruleOf};
 ghost use Rattle.bodies.specs.Body.{requestOrRefusal, readBody, bodyText};
-ghost use Rattle.bodies.specs.Position.{fieldsPosition, bodyPosition, shapeIn, judgedAt};
+ghost use Rattle.bodies.specs.Position.{fieldsPosition, bodyPosition, shapeIn, refusedAt, judgedAt};
 
 // What the fields after a name are: a number, data, and where the data start. Where they are not, with the position where
 // they are wrong.
@@ -37,11 +37,18 @@ pub enum Shape {
     Malformed(usize),
 }
 
-// What a body is as a request. A refusal carries its number, whether it answers an SN name, on which the form of its
-// reply depends, and the position in the slice where the body is wrong.
+// What a body is as a request. A refusal carries its number, and whether it answers an SN name, on which the form of its
+// reply depends.
 pub enum Judged {
     Accepted(Request),
-    Refused(u8, bool, usize),
+    Refused(u8, bool),
+}
+
+// That, and the position in the slice where the body is wrong; 0 where it is accepted. The position stands beside the
+// enum, so that no accepted request is copied with room for it.
+pub struct JudgedBody {
+    pub judged: Judged,
+    pub position: usize,
 }
 
 // Reads the fields of s from index `from` on, which are those after the name.
@@ -84,6 +91,16 @@ fn read_shape(rule: Rule, s: &[u8], from: usize) -> Shape
     }
 }
 
+// A refusal at a position.
+fn refused(number: u8, store: bool, position: usize) -> JudgedBody
+    ensures { λ r. ⌜ r ≡ refusedAt number store position ⌝ }
+{
+    JudgedBody {
+        judged: Judged::Refused(number, store),
+        position,
+    }
+}
+
 // Checks 11 and 12 of a command's number and data, which stand at these positions.
 fn request_or_refusal(
     command: Command,
@@ -92,49 +109,53 @@ fn request_or_refusal(
     row: Row,
     number: usize,
     datum: usize,
-) -> Judged
+) -> JudgedBody
     requires { ⌜ rule ≡ ruleOf command ⌝ }
     ensures { λ r. ⌜ r ≡ judgedAt (λ m. cond (eqb m 11) number datum) (requestOrRefusal command n row) ⌝ }
 {
     let refusal = judge_parts(rule, n, row);
     if refusal == 0 {
-        return Judged::Accepted(request_of(Parts {
+        let request = request_of(Parts {
             command,
             number: n,
             values: row,
-        }));
+        });
+        return JudgedBody {
+            judged: Judged::Accepted(request),
+            position: 0,
+        };
     }
     if refusal == 11 {
-        return Judged::Refused(refusal, rule.store, number);
+        return refused(refusal, rule.store, number);
     }
-    Judged::Refused(refusal, rule.store, datum)
+    refused(refusal, rule.store, datum)
 }
 
 // Reads the fields of s from index `from` on as a request: checks 9 to 12, in their order.
-fn read_fields(s: &[u8], from: usize) -> Judged
+fn read_fields(s: &[u8], from: usize) -> JudgedBody
     requires { ⌜ from ≤ length (now s) ⌝ }
     ensures { λ r. ⌜ r ≡ judgedAt (fieldsPosition (length (now (s .entry))) (placed from (drop from (now (s .entry))))) (readBody (drop from (now (s .entry)))) ⌝ }
 {
     let read = read_name(&s[from..]);
     let name = read.name;
     let Named::Is(command) = name else {
-        return Judged::Refused(9, false, from);
+        return refused(9, false, from);
     };
     let rule = rule_of(command);
     let end = from + read.end;
     if end == s.len() {
-        return Judged::Refused(10, rule.store, end);
+        return refused(10, rule.store, end);
     }
     let number = end + 1;
     let shape = read_shape(rule, s, number);
     match shape {
         Shape::Of(n, row, datum) => request_or_refusal(command, rule, n, row, number, datum),
-        Shape::Malformed(position) => Judged::Refused(10, rule.store, position),
+        Shape::Malformed(position) => refused(10, rule.store, position),
     }
 }
 
 // Reads the body of an accepted frame, which stands before the slice's last two bytes: checks 9 to 12, in their order.
-pub fn read_body(slice: &[u8], body: &[u8]) -> Judged
+pub fn read_body(slice: &[u8], body: &[u8]) -> JudgedBody
     requires { ⌜ (readFrame (now slice) .number ≡ 0) × (now body ≡ readFrame (now slice) .body) ⌝ }
     ensures { λ r. ⌜ r ≡ judgedAt (bodyPosition (now (slice .entry))) (readBody (readFrame (now (slice .entry)) .body)) ⌝ }
 {

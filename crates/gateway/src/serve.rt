@@ -95,7 +95,8 @@ fn serve_body(
     requires { λ t. ⌜ (readFrame (now slice) .number ≡ 0) × (now body ≡ readFrame (now slice) .body) ⌝ }
     ensures { λ t r. ⌜ BodyServed slot station (now (slice .entry)) t (now (reply .entry)) r (tables (now (timers .exit)) (now (registers .exit)) (now (x .exit)) (now (y .exit)) (now (z .exit)) (now (w .exit)) (now (inputs .exit)) (now (outputs .exit)) (now (memory .exit))) (now (reply .exit)) ⌝ }
 {
-    let judged = read_body(slice, body);
+    let read = read_body(slice, body);
+    let judged = read.judged;
     match judged {
         Judged::Accepted(request) => {
             let outcome = perform(
@@ -118,12 +119,12 @@ fn serve_body(
                 position: 0,
             }
         }
-        Judged::Refused(n, store, position) => {
+        Judged::Refused(n, store) => {
             let length = put_refused(reply, station, n, store);
             Sent {
                 number: n,
                 length,
-                position,
+                position: read.position,
             }
         }
     }

@@ -17,7 +17,7 @@ use Rattle.commands.specs.declared.request.Row.{Row}
 use Rattle.commands.specs.declared.request.Request.{Request}
 use Rattle.commands.specs.Command.{commandOf, ruleOf}
 use Rattle.commands.specs.Request.{one, builds}
-use Rattle.bodies.specs.Verdict.{Accepted, Refused}
+use Rattle.bodies.specs.declared.body.Judged.the-variants.{Accepted, Refused}
 use Rattle.data.specs.Ranges.{inRange, judge}
 use Rattle.bodies.specs.Body.{readShape, requestOrRefusal, shaped, afterName, ofFields, readBody}
 use Rattle.harl.specs.Message.{judgeRequest}

@@ -12,15 +12,13 @@ use Rattle.frame.specs.Frame.{readFrame}
 use Rattle.commands.specs.declared.command.Kind.{Kind}
 use Rattle.commands.specs.declared.command.Kind.the-variants.{Timer, Register, Row, Signal, Port}
 use Rattle.commands.specs.declared.command.Rule.{Rule}
-use Rattle.commands.specs.declared.request.Request.{Request}
 use Rattle.bodies.specs.declared.body.Judged.{Judged}
 use Rattle.bodies.specs.declared.body.Judged.the-variants as judged
+use Rattle.bodies.specs.declared.body.JudgedBody.{JudgedBody}
 use Rattle.bodies.specs.declared.reply.Content.{Content}
 use Rattle.bodies.specs.declared.reply.Data.{Data}
 use Rattle.bodies.specs.declared.reply.Outcome.the-variants as outcome
 use Rattle.data.specs.Ranges.{allInRange}
-use Rattle.bodies.specs.Verdict.{Verdict}
-use Rattle.bodies.specs.Verdict as verdict
 use Rattle.bodies.specs.Body.{readBody}
 use Rattle.bodies.specs.Position.{bodyPosition, judgedAt}
 use Rattle.bodies.specs.Reply.{contentOf, codeOf, dataFit, judgeOutcome}
@@ -73,25 +71,18 @@ fitting rule d = go (rule .store) (eqb (codeOf (contentOf d .kind)) (codeOf (rul
     go false true false p q r e = absurd (omega arith)
     go false true true p q r e = record { loads = p; kind = kind-is _ _ (eqb-true _ _ q); range = r }
 
--- ---- what the reader of a body answers is the verdict of the definitions, with the position of a refusal
+-- ---- what the reader of a body answers
 
-module _ (slice : List ℕ) where
-  abbrev verdictOf : Verdict
-  verdictOf = readBody (readFrame slice .body)
+same-judged : (p : ℕ → ℕ) (v : Judged) → judgedAt p v .judged ≡ v
+same-judged p (judged.Accepted r) = refl
+same-judged p (judged.Refused n store) = refl
 
-  pub judged-accepted : {j : Judged} {r : Request} → j ≡ judgedAt (bodyPosition slice) verdictOf → j ≡ judged.Accepted r → verdictOf ≡ verdict.Accepted r
-  judged-accepted {j} {r} e g = go verdictOf (sym e ∙ g)
-    where
-      go : (v : Verdict) → judgedAt (bodyPosition slice) v ≡ judged.Accepted r → v ≡ verdict.Accepted r
-      go (verdict.Accepted q) h = cc
-      go (verdict.Refused m s) h = let z : _≡_ {A = ℕ} 0 1 = cc in absurd (omega arith)
+module _ (slice : List ℕ) {j : JudgedBody} (e : j ≡ judgedAt (bodyPosition slice) (readBody (readFrame slice .body))) where
+  pub body-judged : {v : Judged} → j .judged ≡ v → readBody (readFrame slice .body) ≡ v
+  body-judged g = sym (ap (λ (x : JudgedBody). x .judged) e ∙ same-judged _ _) ∙ g
 
-  pub judged-refused : {j : Judged} {n p : ℕ} {store : Bool} → j ≡ judgedAt (bodyPosition slice) verdictOf → j ≡ judged.Refused n store p → (verdictOf ≡ verdict.Refused n store) × (p ≡ bodyPosition slice n)
-  judged-refused {j} {n} {p} {store} e g = go verdictOf (sym e ∙ g)
-    where
-      go : (v : Verdict) → judgedAt (bodyPosition slice) v ≡ judged.Refused n store p → (v ≡ verdict.Refused n store) × (p ≡ bodyPosition slice n)
-      go (verdict.Accepted q) h = let z : _≡_ {A = ℕ} 0 1 = cc in absurd (omega arith)
-      go (verdict.Refused m s) h = (cc, cc)
+  pub body-refused : {n : ℕ} {store : Bool} → j .judged ≡ judged.Refused n store → j .position ≡ bodyPosition slice n
+  body-refused g = ap (λ (x : JudgedBody). x .position) e ∙ ap (λ (v : Judged). judgedAt (bodyPosition slice) v .position) (body-judged g)
 
 -- ---- what a writer answers
 

@@ -27,7 +27,7 @@ use Rattle.commands.specs.declared.request.Store.the-variants as store
 use Rattle.commands.specs.declared.request.Request.{Request}
 use Rattle.commands.specs.declared.request.Request.the-variants as request
 use Rattle.commands.specs.declared.request.Parts.{Parts}
-use Rattle.bodies.specs.Verdict.{Accepted}
+use Rattle.bodies.specs.declared.body.Judged.the-variants.{Accepted}
 use Rattle.commands.specs.Command.{nameOf, ruleOf}
 use Rattle.commands.proofs.Names.{name, name-solid}
 use Rattle.commands.specs.Request.{one, partsOf, requestOf}

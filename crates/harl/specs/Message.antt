@@ -21,8 +21,8 @@ use Rattle.harl.specs.declared.message.Sent.{Sent}
 use Rattle.commands.specs.Command.{ruleOf}
 use Rattle.commands.specs.Request.{partsOf}
 use Rattle.data.specs.Ranges.{judge}
-use Rattle.bodies.specs.Verdict.{Verdict}
-use Rattle.bodies.specs.Verdict as verdict
+use Rattle.bodies.specs.declared.body.Judged.{Judged}
+use Rattle.bodies.specs.declared.body.Judged.the-variants as judged
 use Rattle.bodies.specs.Body.{readBody, bodyText}
 use Rattle.bodies.specs.Position.{bodyPosition}
 use Rattle.bodies.specs.Reply.{judgeOutcome, outcomeText, readOutcome}
@@ -63,9 +63,9 @@ askedValues (asked.Accepted station r) = theRequest station r
 askedValues (asked.Refused n p) = noRequest n p
 
 -- 9 to 12 of the body of a station's frame, which is a slice
-abbrev pub fromStation : List ℕ → ℕ → Verdict → RequestReading
-fromStation slice station (verdict.Accepted r) = theRequest station r
-fromStation slice station (verdict.Refused n store) = noRequest n (bodyPosition slice n)
+abbrev pub fromStation : List ℕ → ℕ → Judged → RequestReading
+fromStation slice station (judged.Accepted r) = theRequest station r
+fromStation slice station (judged.Refused n store) = noRequest n (bodyPosition slice n)
 
 -- 2 to 7, then those
 abbrev pub requestIn : List ℕ → Reading → RequestReading

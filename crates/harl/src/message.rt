@@ -69,10 +69,11 @@ pub fn read_request(slice: &[u8]) -> Asked
     if number != 0 {
         return Asked::Refused(number, position);
     }
-    let judged = read_body(slice, body);
+    let read = read_body(slice, body);
+    let judged = read.judged;
     match judged {
         Judged::Accepted(request) => Asked::Accepted(station, request),
-        Judged::Refused(n, _, at) => Asked::Refused(n, at),
+        Judged::Refused(n, _) => Asked::Refused(n, read.position),
     }
 }
 

@@ -12,8 +12,8 @@ use Rattle.commands.specs.declared.request.Load.the-variants as load
 use Rattle.commands.specs.declared.request.Store.{Store}
 use Rattle.commands.specs.declared.request.Store.the-variants as store
 use Rattle.commands.specs.declared.request.Request.the-variants as request
-use Rattle.bodies.specs.Verdict.{Verdict}
-use Rattle.bodies.specs.Verdict as verdict
+use Rattle.bodies.specs.declared.body.Judged.{Judged}
+use Rattle.bodies.specs.declared.body.Judged.the-variants as judged
 use Rattle.bodies.specs.Body.{readBody}
 use Rattle.bodies.specs.Reply.{statusText, outcomeText}
 use Rattle.tables.specs.Tables.{loaded, stored}
@@ -58,11 +58,11 @@ module _ (b : Box) (k : ℕ) (h : Shaped (b .tables)) (l : k < 4) where
   stored-same (store.MemoryBit g v) = search row-same
   stored-same (store.MemoryPort p v) = search row-same
 
-  body-same : (slice : List ℕ) (own : ℕ) (j : Verdict) → Agrees b k (decideBody slice k own j) (answerBody slice own (armOf k b) j)
+  body-same : (slice : List ℕ) (own : ℕ) (j : Judged) → Agrees b k (decideBody slice k own j) (answerBody slice own (armOf k b) j)
   unfolding perform respond outcomeText statusText digit
-  body-same slice own (verdict.Accepted (request.Load q)) = record { arm = refl; answer = rw (loaded-same q) }
-  body-same slice own (verdict.Accepted (request.Store q)) = record { arm = stored-same q; answer = refl }
-  body-same slice own (verdict.Refused n q) = record { arm = refl; answer = refl }
+  body-same slice own (judged.Accepted (request.Load q)) = record { arm = refl; answer = rw (loaded-same q) }
+  body-same slice own (judged.Accepted (request.Store q)) = record { arm = stored-same q; answer = refl }
+  body-same slice own (judged.Refused n q) = record { arm = refl; answer = refl }
 
   pub same : (c : Call) → Agrees b k (heard k (b .stations) c) (step (getD (b .stations) k 0) (armOf k b) (eventOf c))
   unfolding step perform respond

@@ -18,8 +18,8 @@ use Rattle.commands.specs.declared.command.Rule.{Rule}
 use Rattle.commands.specs.declared.request.Row.{Row}
 use Rattle.commands.specs.declared.request.Request.{Request}
 use Rattle.commands.specs.Request.{one}
-use Rattle.bodies.specs.Verdict.{Verdict}
-use Rattle.bodies.specs.Verdict as verdict
+use Rattle.bodies.specs.declared.body.Judged.{Judged}
+use Rattle.bodies.specs.declared.body.Judged.the-variants as judged
 use Rattle.bodies.specs.declared.reply.Data.{Data}
 use Rattle.bodies.specs.declared.reply.Outcome.{Outcome}
 use Rattle.bodies.specs.declared.reply.Outcome.the-variants as outcome
@@ -126,7 +126,7 @@ data-in rule n r e = all-x (rule .kind) r (passed rule n r e .values)
 pub record Framed (o : Reading) (s : ℕ) (r : Request) : Type 0 where
   pub number : o .number ≡ 0
   pub station : o .station ≡ s
-  pub body : readBody (o .body) ≡ verdict.Accepted r
+  pub body : readBody (o .body) ≡ judged.Accepted r
 
 never : {A : Type 0} {n p s : ℕ} {r : Request} → noRequest n p ≡ theRequest s r → A
 never {A} {n} {p} {s} {r} e =
@@ -138,13 +138,13 @@ never {A} {n} {p} {s} {r} e =
 pub framed : (slice : List ℕ) (o : Reading) (s : ℕ) (r : Request) → requestIn slice o ≡ theRequest s r → Framed o s r
 framed slice o s r = go (eqb (o .number) 0) refl (readBody (o .body)) refl
   where
-    go : (t : Bool) → eqb (o .number) 0 ≡ t → (j : Verdict) → readBody (o .body) ≡ j
+    go : (t : Bool) → eqb (o .number) 0 ≡ t → (j : Judged) → readBody (o .body) ≡ j
         → cond t (fromStation slice (o .station) j) (noRequest (o .number) (framePosition slice (o .number))) ≡ theRequest s r → Framed o s r
-    go true p (verdict.Accepted q) w e =
+    go true p (judged.Accepted q) w e =
         let found : some q ≡ some r = ap (λ x. x .request) e in
         let same : q ≡ r = cc in
-        record { number = eqb-true (o .number) 0 p; station = ap (λ x. x .station) e; body = w ∙ ap verdict.Accepted same }
-    go true p (verdict.Refused n q) w e = never e
+        record { number = eqb-true (o .number) 0 p; station = ap (λ x. x .station) e; body = w ∙ ap judged.Accepted same }
+    go true p (judged.Refused n q) w e = never e
     go false p j w e = never e
 
 module _ (area s : ℕ) (r : Request) (e : writeRequest area s r .number ≡ 0) where

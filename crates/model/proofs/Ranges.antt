@@ -16,8 +16,8 @@ use Rattle.commands.specs.declared.request.Store.{Store}
 use Rattle.commands.specs.declared.request.Store.the-variants as store
 use Rattle.commands.specs.declared.request.Request.the-variants as request
 use Rattle.commands.specs.Command.{ruleOf}
-use Rattle.bodies.specs.Verdict.{Verdict}
-use Rattle.bodies.specs.Verdict as verdict
+use Rattle.bodies.specs.declared.body.Judged.{Judged}
+use Rattle.bodies.specs.declared.body.Judged.the-variants as judged
 use Rattle.data.specs.Ranges.{inRange}
 use Rattle.bodies.specs.Body.{readBody}
 use Rattle.harl.specs.Message.{judgeRequest}
@@ -80,9 +80,9 @@ sound-slot : (slice : List ℕ) (s : ℕ) (body : List ℕ) (f : Slot) → Sound
 sound-slot slice s body nowhere = tt
 sound-slot slice s body (at k) = go (readBody body) refl
   where
-    go : (j : Verdict) → readBody body ≡ j → Sound (decideBody slice k s j)
-    go (verdict.Accepted r) e = accepted-in-range body r e
-    go (verdict.Refused n q) e = tt
+    go : (j : Judged) → readBody body ≡ j → Sound (decideBody slice k s j)
+    go (judged.Accepted r) e = accepted-in-range body r e
+    go (judged.Refused n q) e = tt
 
 sound : (st : List ℕ) (c : Call) → bringsByte c ≡ true → Sound (decide st c)
 unfolding decide bringsByte

@@ -10,8 +10,8 @@ use borrow.Author.Tests.{ltb-false, leb-true, eqb-true, eqb-false, not-true, le-
 use lib.ListN.{getD, replicate, getD-replicate}
 use lib.Dec.{ltb, leb, eqb}
 use Rattle.frame.specs.Frame.{Reading, readFrame}
-use Rattle.bodies.specs.Verdict.{Verdict}
-use Rattle.bodies.specs.Verdict as verdict
+use Rattle.bodies.specs.declared.body.Judged.{Judged}
+use Rattle.bodies.specs.declared.body.Judged.the-variants as judged
 use Rattle.bodies.specs.Body.{readBody}
 use Rattle.data.proofs.Bounds.{and-left, and-right}
 use Rattle.model.specs.Call.{Call, serve, input}
@@ -86,9 +86,9 @@ concerns (refused k s n p q) = at k
 concerns (accepted k s r) = at k
 concerns (inputSet k p v) = at k
 
-pub body-concerns : (slice : List ℕ) (k s : ℕ) (j : Verdict) → concerns (decideBody slice k s j) ≡ at k
-body-concerns slice k s (verdict.Accepted r) = refl
-body-concerns slice k s (verdict.Refused n q) = refl
+pub body-concerns : (slice : List ℕ) (k s : ℕ) (j : Judged) → concerns (decideBody slice k s j) ≡ at k
+body-concerns slice k s (judged.Accepted r) = refl
+body-concerns slice k s (judged.Refused n q) = refl
 
 pub record For (k : ℕ) (st : List ℕ) (t : Bool) : Type 0 where
   pub fitted : Fitted k st

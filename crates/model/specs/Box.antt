@@ -8,8 +8,8 @@ use lib.ListN.{getD, replicate}
 use lib.Dec.{ltb, eqb}
 use Rattle.frame.specs.Frame.{Reading, readFrame, framePosition, frameOf}
 use Rattle.commands.specs.declared.request.Request.{Request}
-use Rattle.bodies.specs.Verdict.{Verdict}
-use Rattle.bodies.specs.Verdict as verdict
+use Rattle.bodies.specs.declared.body.Judged.{Judged}
+use Rattle.bodies.specs.declared.body.Judged.the-variants as judged
 use Rattle.bodies.specs.Body.{readBody}
 use Rattle.bodies.specs.Position.{bodyPosition}
 use Rattle.bodies.specs.Reply.{performedText, refusalText}
@@ -52,9 +52,9 @@ pub data Decision : Type 0 where
   inputSet : ℕ → ℕ → ℕ → Decision
 
 -- 9 to 12 of a slice
-abbrev pub decideBody : List ℕ → ℕ → ℕ → Verdict → Decision
-decideBody slice k s (verdict.Accepted r) = accepted k s r
-decideBody slice k s (verdict.Refused n store) = refused k s n (bodyPosition slice n) store
+abbrev pub decideBody : List ℕ → ℕ → ℕ → Judged → Decision
+decideBody slice k s (judged.Accepted r) = accepted k s r
+decideBody slice k s (judged.Refused n store) = refused k s n (bodyPosition slice n) store
 
 -- 8 ABSENT
 abbrev pub decideSlot : List ℕ → ℕ → List ℕ → Slot → Decision

@@ -14,8 +14,8 @@ use Rattle.commands.specs.declared.request.Request.{Request}
 use Rattle.commands.specs.declared.request.Request.the-variants as request
 use Rattle.bodies.specs.declared.reply.Data.{Data}
 use Rattle.bodies.specs.declared.reply.Data.the-variants as held
-use Rattle.bodies.specs.Verdict.{Verdict}
-use Rattle.bodies.specs.Verdict as verdict
+use Rattle.bodies.specs.declared.body.Judged.{Judged}
+use Rattle.bodies.specs.declared.body.Judged.the-variants as judged
 use Rattle.bodies.specs.Body.{readBody}
 use Rattle.bodies.specs.Position.{bodyPosition}
 use Rattle.bodies.specs.Reply.{contentOf, contentText, refusalText, doneText}
@@ -80,9 +80,9 @@ answerRequest own a (request.Store q) =
     record { arm = replaced a q; answer = record { number = 0; position = 0; reply = frameOf own doneText } }
 
 -- a check after 8 refuses the slice: its number, its position and its reply, and nothing changes
-abbrev pub answerBody : List ℕ → ℕ → Arm → Verdict → Step
-answerBody slice own a (verdict.Accepted r) = answerRequest own a r
-answerBody slice own a (verdict.Refused n store) =
+abbrev pub answerBody : List ℕ → ℕ → Arm → Judged → Step
+answerBody slice own a (judged.Accepted r) = answerRequest own a r
+answerBody slice own a (judged.Refused n store) =
     record { arm = a; answer = record { number = n; position = bodyPosition slice n; reply = frameOf own (refusalText n store) } }
 
 -- the station of the arm, the arm, and what happens

@@ -20,7 +20,8 @@ use Rattle.commands.specs.Request.{rowOf}
 use Rattle.bodies.specs.declared.reply.Outcome.{Outcome}
 use Rattle.bodies.specs.declared.reply.Data.the-variants as held
 use Rattle.bodies.specs.declared.reply.Outcome.the-variants.{Data, Status}
-use Rattle.bodies.specs.Verdict.{Verdict, Refused}
+use Rattle.bodies.specs.declared.body.Judged.{Judged}
+use Rattle.bodies.specs.declared.body.Judged.the-variants.{Refused}
 use Rattle.bodies.specs.Body.{readBody}
 use Rattle.harl.specs.Message.{writeRequest, writeReply}
 use Rattle.tables.specs.Place.{placeOf}
@@ -53,7 +54,7 @@ pub data Result : Type 0 where
   amount : Option ℤ → Result
   -- a refusal number, 0 for none, and the bytes of a frame
   sent : ℕ → List ℕ → Result
-  verdict : Verdict → Result
+  verdict : Judged → Result
   -- a port and a bit
   place : ℕ → ℕ → Result
 

@@ -23,9 +23,9 @@ use Rattle.commands.specs.Command.{commandOf, ruleOf}
 use Rattle.bodies.specs.declared.body.Shape.{Shape}
 use Rattle.bodies.specs.declared.body.Shape.the-variants as shape
 use Rattle.bodies.specs.declared.body.Judged.{Judged}
-use Rattle.bodies.specs.declared.body.Judged.the-variants.{Refused}
+use Rattle.bodies.specs.declared.body.JudgedBody.{JudgedBody}
 use Rattle.bodies.specs.Body.{readShape, requestOrRefusal, shaped, afterName, ofFields, readBody}
-use Rattle.bodies.specs.Position.{forms, ranges, afterNamePosition, fieldsPosition, shapeAt, shapeIn, judgedAt}
+use Rattle.bodies.specs.Position.{forms, ranges, afterNamePosition, fieldsPosition, shapeAt, shapeIn, refusedAt, judgedAt}
 use Rattle.bodies.proofs.Position.{texts, number-at, data-at, same-place}
 use Rattle.bodies.proofs.body.read_fields.Statement.{statement}
 use Rattle.bodies.proofs.body.read_fields.Tie as tie
@@ -53,7 +53,7 @@ module _ (s : List ℕ) (i : ℕ) where
   here = record { position = i; text = fieldAt s i }
 
   -- what is promised of them
-  abbrev promised : Judged
+  abbrev promised : JudgedBody
   promised = judgedAt (fieldsPosition (length s) (placed i (drop i s))) (readBody (drop i s))
 
   answer-is : (fs : List Placed) → placed i (drop i s) ≡ fs → promised ≡ judgedAt (fieldsPosition (length s) fs) (ofFields (texts fs))
@@ -61,15 +61,15 @@ module _ (s : List ℕ) (i : ℕ) where
   answer-is fs e = rw (← placed-texts i (drop i s), e)
 
   -- by the name, and the fields after it
-  abbrev named : List Placed → Named → Judged
+  abbrev named : List Placed → Named → JudgedBody
   named fs c = judgedAt (λ n. cond (eqb n 9) i (afterNamePosition (length s) c fs n)) (afterName c (texts fs))
 
-  unknown : commandOf (fieldAt s i) ≡ Unknown → Refused 9 false i ≡ promised
+  unknown : commandOf (fieldAt s i) ≡ Unknown → refusedAt 9 false i ≡ promised
   unfolding placed here
   unknown w = sym (answer-is (here ∷ placedMore i (drop i s)) (rw (first-is (drop i s))) ∙ ap (named (placedMore i (drop i s))) w)
 
   module _ (h : i ≤ length s) {k : Command} {e : ℕ} (w : commandOf (fieldAt s i) ≡ Is k) (q : e ≡ endAt s i) {rule : Rule} (u : rule ≡ ruleOf k) where
-    alone : e ≡ length s → Refused 10 (rule .store) e ≡ promised
+    alone : e ≡ length s → refusedAt 10 (rule .store) e ≡ promised
     unfolding here readShape
     alone z = sym (answer-is (here ∷ []) (placed-only s i h (sym q ∙ z)) ∙ ap (named []) w ∙ rw (← u, z, offending-lack (length s) _ _))
 
@@ -90,13 +90,13 @@ module _ (s : List ℕ) (i : ℕ) where
         unfolding after
         shape-is = rw (u, ← placed-texts (e + 1) (drop (e + 1) s)) at a
 
-        misshapen : {p : ℕ} → f ≡ shape.Malformed p → Refused 10 (rule .store) p ≡ promised
+        misshapen : {p : ℕ} → f ≡ shape.Malformed p → refusedAt 10 (rule .store) p ≡ promised
         unfolding place
         misshapen {p} d =
             let o = shape-none _ _ (readShape (ruleOf k) (texts after)) shape-is d in
-            ap (λ (x : Rule). Refused 10 (x .store) p) u ∙ ap (λ (x : ℕ). Refused 10 (ruleOf k .store) x) (o .1) ∙ sym (followed ∙ ap (λ x. judgedAt place (shaped k x)) (o .0))
+            ap (λ (x : Rule). refusedAt 10 (x .store) p) u ∙ ap (λ (x : ℕ). refusedAt 10 (ruleOf k .store) x) (o .1) ∙ sym (followed ∙ ap (λ x. judgedAt place (shaped k x)) (o .0))
 
-        judged : {n d : ℕ} {r : Row} → f ≡ shape.Of n r d → {v : Judged} → v ≡ judgedAt (λ m. cond (eqb m 11) (e + 1) d) (requestOrRefusal k n r) → v ≡ promised
+        judged : {n d : ℕ} {r : Row} → f ≡ shape.Of n r d → {v : JudgedBody} → v ≡ judgedAt (λ m. cond (eqb m 11) (e + 1) d) (requestOrRefusal k n r) → v ≡ promised
         unfolding place after placed
         judged {n} {d} {r} x y =
             let o = shape-some _ _ (readShape (ruleOf k) (texts after)) shape-is x in
@@ -120,9 +120,9 @@ module _ (c : tie.After-name) where
 
 returns : tie.Need-returns
 returns c =
-    let name = c .before .before in
+    let name = c .before .before .before in
     let a = name .before .before .before .args in
-    unknown (a .s .now) (a .from) (sym (rw (rest (a .from) (a .s .now)) at (name .read-name .ensures .0)) ∙ c .enum-told .given .1)
+    c .refused .ensures ∙ unknown (a .s .now) (a .from) (sym (rw (rest (a .from) (a .s .now)) at (name .read-name .ensures .0)) ∙ c .before .enum-told .given .1)
 
 add-end : tie.Need-add-end
 add-end c =
@@ -132,10 +132,10 @@ add-end c =
 
 returns-2 : tie.Need-returns-2
 returns-2 c =
-    let r = c .before .before in
+    let r = c .before .before .before in
     let k = r .before .before in
     let a = start k .args in
-    alone (a .s .now) (a .from) (start k .pre) (command k) (ends k) (r .rule-of .ensures) (c .if1 .taken)
+    c .refused2 .ensures ∙ alone (a .s .now) (a .from) (start k .pre) (command k) (ends k) (r .rule-of .ensures) (c .before .if1 .taken)
 
 returns-3 : tie.Need-returns-3
 returns-3 c =
@@ -147,11 +147,11 @@ returns-3 c =
 
 returns-4 : tie.Need-returns-4
 returns-4 c =
-    let s = c .before .before .before in
+    let s = c .before .before .before .before in
     let r = s .before .before .before in
     let k = r .before .before in
     let a = start k .args in
-    misshapen (a .s .now) (a .from) (start k .pre) (command k) (ends k) (r .rule-of .ensures) (s .before .if1 .left) (s .read-shape .ensures) (c .before .shape2 .given .1)
+    c .refused3 .ensures ∙ misshapen (a .s .now) (a .from) (start k .pre) (command k) (ends k) (r .rule-of .ensures) (s .before .if1 .left) (s .read-shape .ensures) (c .before .before .shape2 .given .1)
 
 pub read-fields-spec : {M : Type 1} → statement M
 read-fields-spec =
@@ -163,14 +163,17 @@ read-fields-spec =
     (λ c κs. search needs)
     (λ c. search needs)
     (λ c. search needs)
+    (λ c κs. search needs)
     returns
     (λ c κs. search needs)
     add-end
+    (λ c κs. search needs)
     returns-2
     (λ c. search needs)
     (λ c κs. search needs)
     (λ c. search needs)
     (λ c κs. search needs)
     (λ c. search needs)
+    (λ c κs. search needs)
     returns-3
     returns-4)

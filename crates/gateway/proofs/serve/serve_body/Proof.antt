@@ -9,7 +9,7 @@ use lib.ListN.{length}
 use Rattle.text.specs.Put.{PutAt}
 use Rattle.frame.specs.Frame.{readFrame, frameOf}
 use Rattle.commands.specs.declared.request.Request.{Request}
-use Rattle.bodies.specs.Verdict.{Accepted, Refused}
+use Rattle.bodies.specs.declared.body.Judged.the-variants.{Accepted, Refused}
 use Rattle.bodies.specs.declared.reply.Outcome.{Outcome}
 use Rattle.bodies.specs.Body.{readBody}
 use Rattle.bodies.specs.Position.{bodyPosition}

@@ -3,7 +3,7 @@ use mathlib.Core.Path.{sym, _∙_}
 use borrow.Author.Needs.{needs}
 use borrow.Author.Tests.{eq-eqb, ne-eqb}
 use Rattle.harl.specs.Message.{readRequest}
-use Rattle.harl.proofs.Laws.{judged-accepted, judged-refused}
+use Rattle.harl.proofs.Laws.{body-judged, body-refused}
 use Rattle.harl.proofs.message.read_request.Statement.{statement}
 use Rattle.harl.proofs.message.read_request.Tie as tie
 
@@ -32,15 +32,16 @@ unfolding readRequest
 returns-2 c =
     let b = c .before .before .before in
     let f = b .before .before in
-    rw (← f .read-frame .ensures .0 .number-is, eq-eqb _ _ (b .before .if1 .left), ← f .read-frame .ensures .0 .station-is, judged-accepted (f .before .before .before .before .before .args .slice .now) (b .read-body .ensures) (c .before .judged .given .1))
+    rw (← f .read-frame .ensures .0 .number-is, eq-eqb _ _ (b .before .if1 .left), ← f .read-frame .ensures .0 .station-is, body-judged (f .before .before .before .before .before .args .slice .now) (b .read-body .ensures) (c .before .judged .given .1))
 
 returns-3 : tie.Need-returns-3
 unfolding readRequest
 returns-3 c =
     let b = c .before .before .before in
     let f = b .before .before in
-    let (v, p) = judged-refused (f .before .before .before .before .before .args .slice .now) (b .read-body .ensures) (c .before .judged2 .given .1) in
-    rw (← f .read-frame .ensures .0 .number-is, eq-eqb _ _ (b .before .if1 .left), v, p)
+    let s = f .before .before .before .before .before .args .slice .now in
+    let g = c .before .judged2 .given .1 in
+    rw (← f .read-frame .ensures .0 .number-is, eq-eqb _ _ (b .before .if1 .left), body-judged s (b .read-body .ensures) g, body-refused s (b .read-body .ensures) g)
 
 pub read-request-spec : {M : Type 1} → statement M
 read-request-spec =
