@@ -1,28 +1,34 @@
--- Where a number or data out of range stand.
-use Prim.Native.Nat.{ℕ}
+-- Where a number or data out of range stand, with which numbers a body is refused, and where.
+use Prim.Native.Nat.{ℕ, _-_, _≤_}
 use mathlib.Core.Path.{_≡_, refl, sym, ap, subst, _∙_}
 use mathlib.Core.Bool.{Bool, true, false, cond, not}
 use mathlib.Core.List.{List, [], _∷_, map}
+use mathlib.Core.Logic.{inl, inr}
 use mathlib.Core.Option.{Option, none, some}
 use native.Mathlib.Omega.{arith}
 use lib.Dec.{eqb}
 use lib.IntN.{pos}
-use lib.ListN.{drop}
+use lib.ListN.{length, drop}
 use Rattle.text.specs.Whole.{readWhole}
-use Rattle.frame.specs.Fields.{Placed, startOf, offending}
-use Rattle.frame.proofs.Placed.{offending-next}
+use Rattle.frame.specs.Fields.{first, more, fields, Placed, placedMore, placed, startOf, offending}
+use Rattle.frame.specs.Frame.{readFrame, bodyStart}
+use Rattle.frame.proofs.Placed.{Pointed, offending-next, body-place, body-fields, body-offends}
 use Rattle.commands.specs.declared.command.Command.{Command}
 use Rattle.commands.specs.declared.command.Kind.{Kind}
+use Rattle.commands.specs.declared.command.Named.{Named}
+use Rattle.commands.specs.declared.command.Named.the-variants.{Is, Unknown}
 use Rattle.commands.specs.declared.command.Rule.{Rule}
 use Rattle.commands.specs.declared.request.Row.{Row}
-use Rattle.commands.specs.Command.{ruleOf}
-use Rattle.commands.specs.Request.{one}
+use Rattle.commands.specs.Command.{commandOf, ruleOf}
+use Rattle.commands.specs.Request.{one, builds}
 use Rattle.data.specs.Ranges.{outside, allInRange, judge}
 use Rattle.data.specs.Data.{readsAs, dataRanges}
 use Rattle.data.proofs.Bounds.{zero-in, one-in}
 use Rattle.data.proofs.Where.{no-some, false-true, out-of-range}
-use Rattle.bodies.specs.Body.{dataShape, numbered, readShape, requestOrRefusal}
-use Rattle.bodies.specs.Position.{ranges, judgedAt}
+use Rattle.bodies.specs.declared.body.Judged.{Judged}
+use Rattle.bodies.specs.declared.body.Judged.the-variants.{Accepted, Refused}
+use Rattle.bodies.specs.Body.{dataShape, numbered, readShape, requestOrRefusal, shaped, afterName, readBody}
+use Rattle.bodies.specs.Position.{forms, ranges, afterNamePosition, bodyPosition, judgedAt}
 
 -- ---- a number and data that were read
 
@@ -70,3 +76,43 @@ same-place c n r p q a b = go (outside (ruleOf c) n) (allInRange (ruleOf c .kind
     go true t d e = rw (d, a d)
     go false true d e = rw (d, e)
     go false false d e = rw (d, e, b d e)
+
+-- ---- a refused body, whatever it is
+
+-- its number is one from 9 to 12
+abbrev pub Numbered : Judged → Type 0
+Numbered (Accepted r) = Unit
+Numbered (Refused n store) = (9 ≤ n) × (n ≤ 12)
+
+judged-number : (c : Command) (n : ℕ) (r : Row) → Numbered (requestOrRefusal c n r)
+unfolding requestOrRefusal judge
+judged-number c n r = go (outside (ruleOf c) n) (allInRange (ruleOf c .kind) r)
+  where
+    go : (s t : Bool) → let j : ℕ = cond s 11 (cond t 0 12) in Numbered (cond (eqb j 0) (Accepted (builds c n r)) (Refused j (ruleOf c .store)))
+    go true t = (omega arith, omega arith)
+    go false true = tt
+    go false false = (omega arith, omega arith)
+
+shape-number : (c : Command) (o : Option (ℕ × Row)) → Numbered (shaped c o)
+shape-number c (some p) = judged-number c (p .0) (p .1)
+shape-number c none = (omega arith, omega arith)
+
+pub body-number : (s : List ℕ) → Numbered (readBody s)
+unfolding readBody fields
+body-number s = go (commandOf (first s))
+  where
+    go : (c : Named) → Numbered (afterName c (more s))
+    go (Is c) = shape-number c (readShape (ruleOf c) (more s))
+    go Unknown = (omega arith, omega arith)
+
+-- and it is wrong where a field of it starts, or at ETX
+pub body-pointed : (s : List ℕ) (n : ℕ) → readFrame s .number ≡ 0 → Pointed s (bodyPosition s n)
+unfolding bodyPosition placed
+body-pointed s n e =
+    let p = body-place s e in
+    rw (p .fields-are) (go (eqb n 9) (commandOf (first (readFrame s .body))))
+  where
+    go : (t : Bool) (c : Named) → Pointed s (cond t (bodyStart s) (afterNamePosition (length s - 2) c (placedMore (bodyStart s) (readFrame s .body)) n))
+    go true c = let f = body-fields s e .0 in (f .0, (f .1 .0, inr (f .1 .1)))
+    go false (Is c) = body-offends s e 1 (cond (eqb n 10) (forms (ruleOf c)) (ranges (ruleOf c)))
+    go false Unknown = (omega arith, (omega arith, inl refl))

@@ -15,7 +15,7 @@ use Rattle.text.specs.Scan.{until, before, endAt, fieldAt}
 use Rattle.text.proofs.Fields.{until-within}
 use Rattle.frame.specs.Checksum.{lrcOf}
 use Rattle.frame.specs.Fields.{first, more, fields, Placed, placedMore, placed, firstFailing, startOf, offending}
-use Rattle.frame.specs.Frame.{Reading, refusedFrame, isStray, stray, stationOf, withStation, inner, readInner, readFrame, framePosition}
+use Rattle.frame.specs.Frame.{Reading, refusedFrame, isStray, stray, stationOf, withStation, inner, readInner, readFrame, framePosition, bodyStart}
 use Rattle.frame.proofs.Laws.{first-is, more-none}
 use Rattle.frame.proofs.Station.{empty}
 
@@ -217,13 +217,13 @@ past : (t : Bool) (n : ℕ) {m : ℕ} (o : Reading) → (n ≡ m → ⊥) → co
 past true n o h e = absurd (h e)
 past false n o h e = (refl, e)
 
-record Passed (s : List ℕ) : Type 0 where
-  low : 6 ≤ length s
-  high : length s ≤ 255
-  inner-is : readFrame s ≡ readInner (inner s)
+pub record Passed (s : List ℕ) : Type 0 where
+  pub low : 6 ≤ length s
+  pub high : length s ≤ 255
+  pub inner-is : readFrame s ≡ readInner (inner s)
 
 -- checks 2 to 5
-passed : (s : List ℕ) (n : ℕ) → ((k : ℕ) → 2 ≤ k → k ≤ 5 → k ≡ n → ⊥) → readFrame s .number ≡ n → Passed s
+pub passed : (s : List ℕ) (n : ℕ) → ((k : ℕ) → 2 ≤ k → k ≤ 5 → k ≡ n → ⊥) → readFrame s .number ≡ n → Passed s
 unfolding readFrame
 passed s n other e =
     let a = past (ltb (length s) 6 || ltb 255 (length s)) 2 _ (other 2 (omega arith) (omega arith)) e in
@@ -236,6 +236,22 @@ passed s n other e =
       high = ltb-false 255 (length s) (l .1);
       inner-is = rw (a .0, b .0, c .0, d .0);
     }
+
+at-most : (t : Bool) (n : ℕ) (o : Reading) → n ≤ 7 → o .number ≤ 7 → cond t (refusedFrame n) o .number ≤ 7
+at-most true n o h i = h
+at-most false n o h i = i
+
+-- 7 is the last number
+pub frame-number : (s : List ℕ) → readFrame s .number ≤ 7
+unfolding readFrame readInner
+frame-number s =
+    at-most (ltb (length s) 6 || ltb 255 (length s)) 2 _ (omega arith)
+    (at-most (not (eqb (getD s 0 0) 2)) 3 _ (omega arith)
+    (at-most (not (eqb (getD s (length s - 2) 0) 3)) 4 _ (omega arith)
+    (at-most (not (eqb (getD s (length s - 1) 0) (lrcOf (slice 1 (length s - 1) s)))) 5 _ (omega arith)
+    (at-most (ltb (stray (inner s)) (length (inner s))) 6 _ (omega arith)
+    (at-most (eqb (before 32 (inner s)) (length (inner s))) 7 _ (omega arith)
+    (at-most (eqb (stationOf (take (before 32 (inner s)) (inner s))) 0) 7 _ (omega arith) (omega arith)))))))
 
 -- ---- the body of an accepted frame
 
@@ -254,10 +270,6 @@ accepted t e =
     one : (n : ℕ) → eqb (stationOf (take n t)) 0 ≡ false → 1 ≤ n
     one zero z = absurd (eqb-false (stationOf []) 0 z empty)
     one (suc n) z = omega arith
-
--- the index of its first byte
-abbrev pub bodyStart : List ℕ → ℕ
-bodyStart s = length s - 2 - length (readFrame s .body)
 
 pub record BodyPlace (s : List ℕ) : Type 0 where
   pub low : 6 ≤ length s

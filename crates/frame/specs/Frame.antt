@@ -78,6 +78,10 @@ readFrame s =
     (cond (not (eqb (getD s (length s - 1) 0) (lrcOf (slice 1 (length s - 1) s)))) (refusedFrame 5)
     (readInner (inner s)))))
 
+-- where the body of an accepted frame starts
+abbrev pub bodyStart : List ℕ → ℕ
+bodyStart s = length s - 2 - length (readFrame s .body)
+
 -- document 02, E9: where a slice is wrong that reading a frame refuses with n: at the first stray byte for 6, at the
 -- station for 7; 0 for any other number
 unfoldable pub framePosition : List ℕ → ℕ → ℕ

@@ -3,3 +3,4 @@ pub mod Requests
 pub mod Replies
 pub mod Accepted
 pub mod Lengths
+pub mod Place

@@ -1,3 +1,4 @@
 pub mod Message
 pub mod Back
 pub mod Length
+pub mod Place

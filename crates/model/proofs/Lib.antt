@@ -4,6 +4,7 @@ pub mod Arms
 pub mod Shaped
 pub mod Setups
 pub mod Isolation
+pub mod Place
 pub mod Ranges
 pub mod EndToEnd
 pub mod StoreLoad

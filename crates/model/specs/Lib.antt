@@ -6,6 +6,7 @@ pub mod Addressed
 pub mod Shaped
 pub mod Ranges
 pub mod Demand3
+pub mod Place
 pub mod EndToEnd
 pub mod StoreLoad
 pub mod Runs

@@ -7,8 +7,8 @@ use borrow.Author.Needs.{needs}
 use lib.ListN.{length, take, drop}
 use lib.Seq.{length-take-le}
 use Rattle.frame.specs.Fields.{placed}
-use Rattle.frame.specs.Frame.{readFrame}
-use Rattle.frame.proofs.Placed.{bodyStart, BodyPlace, body-place}
+use Rattle.frame.specs.Frame.{readFrame, bodyStart}
+use Rattle.frame.proofs.Placed.{BodyPlace, body-place}
 use Rattle.bodies.specs.Body.{readBody}
 use Rattle.bodies.specs.Position.{fieldsPosition, bodyPosition, judgedAt}
 use Rattle.bodies.proofs.body.read_body.Statement.{statement}

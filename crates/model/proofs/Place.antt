@@ -1,0 +1,53 @@
+-- What holds of the position that the box answers: that of the slice read as a request, unless ROOM or ABSENT is told.
+use Prim.Native.Nat.{ℕ}
+use mathlib.Core.Path.{_≡_, refl}
+use mathlib.Core.Bool.{Bool, true, false, cond}
+use mathlib.Core.List.{List}
+use lib.Dec.{ltb, eqb}
+use lib.ListN.{getD}
+use Rattle.frame.specs.Frame.{Reading, readFrame, framePosition}
+use Rattle.bodies.specs.declared.body.Judged.{Judged}
+use Rattle.bodies.specs.declared.body.Judged.the-variants as judged
+use Rattle.bodies.specs.Body.{readBody}
+use Rattle.harl.specs.Message.{RequestReading, noRequest, fromStation, readRequest}
+use Rattle.harl.specs.Place.{Told}
+use Rattle.harl.proofs.Place.{nothing-told, requests-told}
+use Rattle.model.specs.Box.{Box, Slot, nowhere, at, Decision, unanswered, decideBody, decideSlot, slotOf, decide, respond, answer}
+use Rattle.model.specs.Place.{ServedTold, InputsTold}
+use Rattle.model.proofs.Laws.{cond-has}
+
+-- the position of a decision
+abbrev At : Box → List ℕ → Decision → Type 0
+At b slice d = Told slice (respond b d .number) (respond b d .position)
+
+module _ (b : Box) (slice : List ℕ) where
+  abbrev frame : Reading
+  frame = readFrame slice
+
+  judged-told : (k : ℕ) (v : Judged) → Told slice (fromStation slice (frame .station) v .number) (fromStation slice (frame .station) v .position) → At b slice (decideBody slice k (frame .station) v)
+  unfolding respond
+  judged-told k (judged.Accepted r) h = h
+  judged-told k (judged.Refused n store) h = h
+
+  frame-told :
+      (t : Bool) (place : Slot) →
+      let o : RequestReading = cond t (fromStation slice (frame .station) (readBody (frame .body))) (noRequest (frame .number) (framePosition slice (frame .number))) in
+      Told slice (o .number) (o .position) →
+      At b slice (cond t (decideSlot slice (frame .station) (frame .body) place) (unanswered (frame .number) (framePosition slice (frame .number))))
+  unfolding respond
+  frame-told true nowhere h = nothing-told slice 8 refl
+  frame-told true (at k) h = judged-told k (readBody (frame .body)) h
+  frame-told false place h = h
+
+pub served-told : ServedTold
+unfolding readRequest decide respond answer
+served-told b slice room =
+    cond-has (At b slice) (ltb room 64) (nothing-told slice 1 refl)
+    (frame-told b slice (eqb (readFrame slice .number) 0) (slotOf (b .stations) (readFrame slice .station)) (requests-told slice))
+
+pub inputs-told : InputsTold
+unfolding decide respond answer
+inputs-told b k port byte = cond-has Silent (ltb 3 k) refl (cond-has Silent (eqb (getD (b .stations) k 0) 0) refl (cond-has Silent (ltb 31 port) refl refl))
+  where
+    Silent : Decision → Type 0
+    Silent d = respond b d .position ≡ 0
