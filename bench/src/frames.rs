@@ -133,6 +133,16 @@ const COMMANDS: [Command; 16] = [
     command(b"SNBD", 0, 15, Data::Whole { greatest: 255 }),
 ];
 
+/// How many fields a command expects behind its name.
+pub fn expected_fields(name: &[u8]) -> Option<usize> {
+    let command = COMMANDS.iter().find(|command| command.name == name)?;
+    Some(match command.data {
+        Data::None => 1,
+        Data::Whole { .. } => 2,
+        Data::Hundredths { fields, .. } => 1 + fields,
+    })
+}
+
 /// The parts of a request, before they are put into a frame.
 struct Request {
     station: Vec<u8>,
@@ -490,13 +500,14 @@ fn input(random: &mut Random) -> Call {
     Call::Input { slot, port, byte: random.byte() }
 }
 
-/// A slice for serving: good, damaged, changed at random, or random altogether.
+/// A slice for serving: good, damaged in one or more ways, changed at random, or random altogether.
 fn served(random: &mut Random, stations: &[u8; 4]) -> Vec<u8> {
-    match random.below(20) {
+    match random.below(24) {
         0..=9 => good(random, stations),
         10..=13 => any_damaged(random, stations),
-        14..=17 => changed(random, stations),
-        18 => random_text(random, stations),
+        14..=17 => faulty(random, stations),
+        18..=21 => changed(random, stations),
+        22 => random_text(random, stations),
         _ => {
             let mut slice = vec![0; random.below(301)];
             random.fill(&mut slice);
@@ -505,6 +516,52 @@ fn served(random: &mut Random, stations: &[u8; 4]) -> Vec<u8> {
             }
             slice
         }
+    }
+}
+
+/// A frame with one to four faults, so that some stand beside others; its LRC is right.
+fn faulty(random: &mut Random, stations: &[u8; 4]) -> Vec<u8> {
+    let mut request = any_request(random, stations);
+    let faults = 1 + random.below(4);
+    for _ in 0..faults {
+        fault(random, &mut request);
+    }
+    let mut slice = request.frame();
+    if random.one_in(10) {
+        for _ in 0..faults {
+            let place = 1 + random.below(slice.len() - 3);
+            slice[place] = random.pick(&[0x00, STX, ETX, 0x1F, 0x7F, 0x80, 0xFF]);
+        }
+        repair(&mut slice);
+    }
+    slice
+}
+
+/// Mostly in the fields behind the name. The name stays, if only as an empty field.
+fn fault(random: &mut Random, request: &mut Request) {
+    let count = request.fields.len();
+    match random.below(16) {
+        0..=4 if count > 1 => {
+            let place = 1 + random.below(count - 1);
+            request.fields[place] = match random.below(3) {
+                0 => Vec::new(),
+                1 => random.pick(&BAD_WHOLE).to_vec(),
+                _ => random.pick(&BAD_HUNDREDTHS).to_vec(),
+            };
+        }
+        5..=7 => {
+            let extra = random.pick(&[&b""[..], b"", b"0", b"1", b"0.00", b"x", b"LNT"]);
+            request.fields.insert(1 + random.below(count), extra.to_vec());
+        }
+        8..=10 if count > 1 => {
+            request.fields.pop();
+        }
+        11 | 12 if count > 1 => number_out_of_range(random, request),
+        13 if count > 2 && has_values_out_of_range(&request.command) => data_out_of_range(random, request),
+        14 if random.one_in(2) => request.fields[0].clear(),
+        14 if !request.fields[0].is_empty() => misname(random, &mut request.fields[0]),
+        15 if random.one_in(2) => request.station = random.pick(&BAD_STATIONS).to_vec(),
+        _ => {}
     }
 }
 

@@ -5,6 +5,7 @@
 
 mod frames;
 mod gateway;
+mod kinds;
 mod reference;
 
 use std::env;
@@ -13,13 +14,30 @@ use std::process::ExitCode;
 use std::time::Instant;
 
 use frames::{Call, Frames, Random, FRAMES, GREATEST_ROOM, STATIONS};
+use kinds::KINDS;
 use reference::{lrc, Sent, Tables, REPLY_ROOM};
 
 const CALLS: usize = 1_000_000;
 const ROUNDS: usize = 301;
 
-/// How often each number from 0 to 14 was returned.
-type Counts = [usize; 15];
+/// How often each number from 0 to 14 was returned, and each kind of position.
+struct Counts {
+    numbers: [usize; 15],
+    kinds: [usize; KINDS],
+}
+
+impl Counts {
+    fn new() -> Counts {
+        Counts { numbers: [0; 15], kinds: [0; KINDS] }
+    }
+
+    fn served(&mut self, slice: &[u8], sent: Sent) {
+        self.numbers[usize::from(sent.number)] += 1;
+        for kind in kinds::kinds(slice, sent.number, sent.position) {
+            self.kinds[kind] += 1;
+        }
+    }
+}
 
 /// The tables of both sides.
 struct Pair {
@@ -78,7 +96,7 @@ impl Pair {
     }
 
     /// Serves the slice on both sides with a reply area of that length at the start of a larger one.
-    fn serve(&mut self, slice: &[u8], room: usize, random: &mut Random) -> Result<u8, String> {
+    fn serve(&mut self, slice: &[u8], room: usize, random: &mut Random) -> Result<Sent, String> {
         let mut before = [0; GREATEST_ROOM];
         random.fill(&mut before);
         let (mut left, mut right) = (before, before);
@@ -102,7 +120,7 @@ impl Pair {
             return Err(format!("{}\n  bytes past the length were changed", context()));
         }
         self.same_tables().map_err(|text| format!("{}\n  {text}", context()))?;
-        Ok(reference.number)
+        Ok(reference)
     }
 }
 
@@ -112,7 +130,8 @@ fn hex(bytes: &[u8]) -> String {
 
 fn answer(sent: Sent, area: &[u8]) -> String {
     let reply = &area[..sent.length.min(area.len())];
-    format!("number {}, length {}, reply {}", sent.number, sent.length, hex(reply))
+    let Sent { number, length, position } = sent;
+    format!("number {number}, position {position}, length {length}, reply {}", hex(reply))
 }
 
 /// Each slot and input port, with the byte that it holds before the frames are served.
@@ -124,19 +143,19 @@ fn inputs() -> impl Iterator<Item = (usize, u16, u8)> {
 fn compare_frames(frames: &Frames) -> Result<Counts, String> {
     let mut random = Random::new(1);
     let mut pair = Pair::new();
-    let mut counts = [0; 15];
+    let mut counts = Counts::new();
     pair.setup(&STATIONS.map(u16::from))?;
     for (slot, port, byte) in inputs() {
         pair.input(slot, port, byte)?;
     }
     for (index, slice) in frames.iter().enumerate() {
-        let number = pair.serve(slice, REPLY_ROOM, &mut random).map_err(|text| format!("frame {index}: {text}"))?;
-        counts[usize::from(number)] += 1;
+        let sent = pair.serve(slice, REPLY_ROOM, &mut random).map_err(|text| format!("frame {index}: {text}"))?;
+        counts.served(slice, sent);
     }
-    if counts[0] != FRAMES - FRAMES / 10 {
-        return Err(format!("{} frames were accepted, not nine in ten", counts[0]));
+    if counts.numbers[0] != FRAMES - FRAMES / 10 {
+        return Err(format!("{} frames were accepted, not nine in ten", counts.numbers[0]));
     }
-    match (2..=12).find(|&number| counts[number] == 0) {
+    match (2..=12).find(|&number| counts.numbers[number] == 0) {
         Some(number) => Err(format!("no frame of the set reaches refusal {number}")),
         None => Ok(counts),
     }
@@ -146,18 +165,25 @@ fn compare_frames(frames: &Frames) -> Result<Counts, String> {
 fn compare_calls() -> Result<Counts, String> {
     let mut random = Random::new(2);
     let mut pair = Pair::new();
-    let mut counts = [0; 15];
+    let mut counts = Counts::new();
     for index in 0..CALLS {
         let call = frames::call(&mut random, &pair.reference.stations);
-        let number = match call {
-            Call::Setup(want) => pair.setup(&want),
-            Call::Input { slot, port, byte } => pair.input(slot, port, byte),
-            Call::Serve { slice, room } => pair.serve(&slice, room, &mut random),
+        let made = match call {
+            Call::Setup(want) => pair.setup(&want).map(|number| counts.numbers[usize::from(number)] += 1),
+            Call::Input { slot, port, byte } => {
+                pair.input(slot, port, byte).map(|number| counts.numbers[usize::from(number)] += 1)
+            }
+            Call::Serve { slice, room } => {
+                pair.serve(&slice, room, &mut random).map(|sent| counts.served(&slice, sent))
+            }
         };
-        counts[usize::from(number.map_err(|text| format!("call {index}: {text}"))?)] += 1;
+        made.map_err(|text| format!("call {index}: {text}"))?;
     }
-    match (0..=14).find(|&number| counts[number] == 0) {
-        Some(number) => Err(format!("no call reaches refusal {number}")),
+    if let Some(number) = (0..=14).find(|&number| counts.numbers[number] == 0) {
+        return Err(format!("no call reaches refusal {number}"));
+    }
+    match (0..KINDS).find(|&kind| counts.kinds[kind] == 0) {
+        Some(kind) => Err(format!("no call reaches the position {}", kinds::name(kind))),
         None => Ok(counts),
     }
 }
@@ -223,20 +249,24 @@ fn time(frames: &Frames, rounds: usize) {
     }
     let (gateway, reference, floor) = (summary(gateway), summary(reference), summary(floor));
     println!("{rounds} rounds of {FRAMES} frames, {} bytes", frames.bytes());
-    println!("{:<20}{:>10}{:>10}", "ns a frame", "least", "median");
+    println!("{:<35}{:>10}{:>10}", "ns a frame", "least", "median");
     for (name, (least, median)) in [("gateway", gateway), ("reference", reference), ("floor", floor)] {
-        println!("{name:<20}{least:>10.1}{median:>10.1}");
+        println!("{name:<35}{least:>10.1}{median:>10.1}");
     }
-    println!("{:<20}{:>10.3}{:>10.3}", "gateway/reference", gateway.0 / reference.0, gateway.1 / reference.1);
+    println!("{:<35}{:>10.3}{:>10.3}", "gateway/reference", gateway.0 / reference.0, gateway.1 / reference.1);
 }
 
 fn run(rounds: usize) -> Result<(), String> {
     let frames = frames::benchmark_set();
     let set = compare_frames(&frames)?;
     let stream = compare_calls()?;
-    println!("{:<20}{:>10}{:>10}", "number", "frames", "calls");
-    for (number, (set, stream)) in set.iter().zip(&stream).enumerate() {
-        println!("{number:<20}{set:>10}{stream:>10}");
+    println!("{:<35}{:>10}{:>10}", "number", "frames", "calls");
+    for (number, (set, stream)) in set.numbers.iter().zip(&stream.numbers).enumerate() {
+        println!("{number:<35}{set:>10}{stream:>10}");
+    }
+    println!("{:<35}{:>10}{:>10}", "position", "frames", "calls");
+    for (kind, (set, stream)) in set.kinds.iter().zip(&stream.kinds).enumerate() {
+        println!("{:<35}{set:>10}{stream:>10}", kinds::name(kind));
     }
     println!("gateway and reference agree on {FRAMES} frames and {CALLS} calls\n");
     time(&frames, rounds);
