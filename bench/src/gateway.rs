@@ -81,7 +81,7 @@ pub fn setup(tables: &mut Tables, want: &[u16; 4]) -> u8 {
 
 #[inline]
 pub fn serve(tables: &mut Tables, slice: &[u8], reply: &mut [u8]) -> Sent {
-    let LlamputSent { number, length } = unsafe {
+    let LlamputSent { number, length, position } = unsafe {
         llamput_serve(
             tables.timers.as_mut_ptr(),
             tables.registers.as_mut_ptr(),
@@ -99,7 +99,7 @@ pub fn serve(tables: &mut Tables, slice: &[u8], reply: &mut [u8]) -> Sent {
             reply.len(),
         )
     };
-    Sent { number, length }
+    Sent { number, length, position }
 }
 
 pub fn input(tables: &mut Tables, slot: usize, port: u16, byte: u8) -> u8 {

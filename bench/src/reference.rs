@@ -1,4 +1,4 @@
-//! A bytewise server of the base commands as requests E2 and E6 leave them, written from documents 01 and 02 alone.
+//! A bytewise server of the base commands as requests E2, E6 and E9 leave them, written from documents 01 and 02 alone.
 
 pub const ROOM: u8 = 1;
 pub const LENGTH: u8 = 2;
@@ -53,11 +53,13 @@ impl Tables {
     }
 }
 
-/// What serving returns: the refusal number, or 0, and the length of the reply.
+/// What serving returns: the refusal number, or 0, the length of the reply, and the offset where a refused slice is
+/// wrong, or 0.
 #[derive(Clone, Copy, Debug, PartialEq, Eq)]
 pub struct Sent {
     pub number: u8,
     pub length: usize,
+    pub position: usize,
 }
 
 /// Sets up a new box. Returns 0 or SETUP; then no slot is fitted.
@@ -85,18 +87,18 @@ pub fn input(tables: &mut Tables, slot: usize, port: u16, byte: u8) -> u8 {
 #[inline(never)]
 pub fn serve(tables: &mut Tables, slice: &[u8], area: &mut [u8]) -> Sent {
     let Some(area) = area.first_chunk_mut::<REPLY_ROOM>() else {
-        return silent(ROOM);
+        return silent(ROOM, slice);
     };
     let (station, body) = match read_frame(slice) {
         Ok(frame) => frame,
-        Err(number) => return silent(number),
+        Err(number) => return silent(number, slice),
     };
     let Some(slot) = find_slot(&tables.stations, station) else {
-        return silent(ABSENT);
+        return silent(ABSENT, slice);
     };
     let mut reply = Reply::start(area, station);
-    let number = match perform(tables, slot, body, &mut reply) {
-        Ok(()) => 0,
+    let (number, position) = match perform(tables, slot, body, &mut reply) {
+        Ok(()) => (0, 0),
         Err(number) => {
             // An SN name gets the two digits alone.
             if number == COMMAND || body[0] == b'L' {
@@ -104,15 +106,15 @@ pub fn serve(tables: &mut Tables, slice: &[u8], area: &mut [u8]) -> Sent {
             }
             reply.byte(b'0' + number / 10);
             reply.byte(b'0' + number % 10);
-            number
+            (number, position(slice, number))
         }
     };
     reply.end();
-    Sent { number, length: reply.length }
+    Sent { number, length: reply.length, position }
 }
 
-fn silent(number: u8) -> Sent {
-    Sent { number, length: 0 }
+fn silent(number: u8, slice: &[u8]) -> Sent {
+    Sent { number, length: 0, position: position(slice, number) }
 }
 
 /// The exclusive or of the bytes.
@@ -378,6 +380,92 @@ impl Fields<'_> {
     }
 }
 
+/// Where a slice that gets this refusal is wrong. Only a refused slice is walked again.
+#[cold]
+#[inline(never)]
+fn position(slice: &[u8], number: u8) -> usize {
+    match number {
+        STRAY => first_stray(slice),
+        STATION => 1,
+        COMMAND => field_start(slice, 1),
+        SHAPE => wrong_field(slice),
+        NUMBER => field_start(slice, 2),
+        // Only a command with one datum gives VALUE.
+        VALUE => field_start(slice, 3),
+        _ => 0,
+    }
+}
+
+/// For a slice that has a byte outside 20h..7Eh before its last two bytes and behind the first.
+fn first_stray(slice: &[u8]) -> usize {
+    let mut place = 1;
+    while (0x20..=0x7E).contains(&slice[place]) {
+        place += 1;
+    }
+    place
+}
+
+/// The start of a field that the slice has; the station is field 0. An empty field starts at the byte that ends it.
+fn field_start(slice: &[u8], field: usize) -> usize {
+    let mut place = 1;
+    for _ in 0..field {
+        while slice[place] != b' ' {
+            place += 1;
+        }
+        place += 1;
+    }
+    place
+}
+
+/// The first malformed field of those that the command expects; if there is none, the first surplus field, or ETX where
+/// fields lack.
+fn wrong_field(slice: &[u8]) -> usize {
+    let etx = slice.len() - 2;
+    let mut start = 1;
+    let mut fields = slice[1..etx].split(|&byte| byte == b' ').map(|field| {
+        let place = start;
+        start += field.len() + 1;
+        (place, field)
+    });
+    let name = fields.nth(1).map_or(&b""[..], |(_, name)| name);
+    for form in forms(name) {
+        match fields.next() {
+            Some((place, field)) if !form(field) => return place,
+            Some(_) => {}
+            None => return etx,
+        }
+    }
+    let (surplus, _) = fields.next().expect("a request whose shape is wrong");
+    surplus
+}
+
+/// The forms of the fields that a command expects behind its name.
+fn forms(name: &[u8]) -> &'static [fn(&[u8]) -> bool] {
+    match name {
+        b"SNT" => &[is_whole, is_hundredths],
+        b"SNL" => &[is_whole, is_hundredths, is_hundredths, is_hundredths, is_hundredths],
+        b"SND" | b"SNOB" | b"SNOD" | b"SNBB" | b"SNBD" => &[is_whole, is_whole],
+        _ => &[is_whole],
+    }
+}
+
+/// 1 to 4 digits.
+fn is_whole(field: &[u8]) -> bool {
+    (1..=4).contains(&field.len()) && field.iter().all(u8::is_ascii_digit)
+}
+
+/// An optional "-", 1 to 4 digits, then nothing or "." with 1 or 2 digits.
+fn is_hundredths(field: &[u8]) -> bool {
+    let size = field.strip_prefix(b"-").unwrap_or(field);
+    match size.iter().position(|&byte| byte == b'.') {
+        None => is_whole(size),
+        Some(point) => {
+            let decimals = &size[point + 1..];
+            is_whole(&size[..point]) && is_whole(decimals) && decimals.len() <= 2
+        }
+    }
+}
+
 /// A reply that is being written, and the exclusive or of its bytes after STX.
 struct Reply<'a> {
     area: &'a mut [u8; REPLY_ROOM],
@@ -471,7 +559,8 @@ mod tests {
         line.chunks(2).map(|pair| Some(digit(pair[0])? * 16 + digit(pair[1])?)).collect()
     }
 
-    fn cell(input: &[u8]) -> Vec<String> {
+    /// The answers of the program `cell` to its input, each with the position if it was a call.
+    fn cell(input: &[u8]) -> Vec<(String, Option<usize>)> {
         let mut tables = Tables::new();
         assert_eq!(setup(&mut tables, &[1, 2, 3, 4]), 0);
         let mut lines: Vec<&[u8]> = input.split(|&byte| byte == b'\n').collect();
@@ -481,7 +570,7 @@ mod tests {
         }
         let serve_line = |line: &[u8]| {
             let Some(slice) = slice_of(line) else {
-                return "--".to_string();
+                return ("--".to_string(), None);
             };
             let mut reply = [0; REPLY_ROOM];
             let sent = serve(&mut tables, &slice, &mut reply);
@@ -492,21 +581,129 @@ mod tests {
             for byte in &reply[..sent.length] {
                 text.push_str(&format!("{byte:02X}"));
             }
-            text
+            (text, Some(sent.position))
         };
         lines.into_iter().map(serve_line).collect()
     }
 
-    #[test]
-    fn stored_answers() {
-        let directory = Path::new(env!("CARGO_MANIFEST_DIR")).join("../crates/cell");
-        let input = fs::read(directory.join("stdin")).expect("crates/cell/stdin");
-        let output = fs::read_to_string(directory.join("stdout")).expect("crates/cell/stdout");
-        let (answers, expected) = (cell(&input), output.lines().collect::<Vec<_>>());
-        for (line, (answer, expected)) in answers.iter().zip(&expected).enumerate() {
+    /// The stored input and output lines of a program.
+    fn stored(program: &str) -> (Vec<u8>, Vec<String>) {
+        let directory = Path::new(env!("CARGO_MANIFEST_DIR")).join("../crates").join(program);
+        let input = fs::read(directory.join("stdin")).expect(program);
+        let output = fs::read_to_string(directory.join("stdout")).expect(program);
+        (input, output.lines().map(str::to_string).collect())
+    }
+
+    fn assert_lines(answers: &[String], expected: &[String]) {
+        for (line, (answer, expected)) in answers.iter().zip(expected).enumerate() {
             assert_eq!(answer, expected, "line {}", line + 1);
         }
         assert_eq!(answers.len(), expected.len());
+    }
+
+    #[test]
+    fn stored_answers() {
+        let (input, expected) = stored("cell");
+        let answers: Vec<String> = cell(&input).into_iter().map(|(text, _)| text).collect();
+        assert_lines(&answers, &expected);
+    }
+
+    #[test]
+    fn stored_positions() {
+        let (input, expected) = stored("positions");
+        let with_position = |(text, position): (String, Option<usize>)| match position {
+            Some(position) => format!("{text} @{position}"),
+            None => text,
+        };
+        let answers: Vec<String> = cell(&input).into_iter().map(with_position).collect();
+        assert_lines(&answers, &expected);
+    }
+
+    /// The refusal number and the position for a text within a frame, at a box with stations 1 and 42.
+    fn wrong_at(text: &[u8]) -> (u8, usize) {
+        let mut tables = Tables::new();
+        assert_eq!(setup(&mut tables, &[1, 0, 42, 0]), 0);
+        let mut slice = vec![STX];
+        slice.extend_from_slice(text);
+        slice.push(ETX);
+        slice.push(lrc(&slice[1..]));
+        let sent = serve(&mut tables, &slice, &mut [0; REPLY_ROOM]);
+        (sent.number, sent.position)
+    }
+
+    #[test]
+    fn positions() {
+        let cases: [(&[u8], u8, usize); 42] = [
+            (b"1 LNT 5", 0, 0),
+            (b"9 LNT x", ABSENT, 0),
+            // The first stray byte, wherever it stands.
+            (b"\x011 LNT", STRAY, 1),
+            (b"1 L\x7FT \x80", STRAY, 4),
+            (b"1 LNT 5\x03", STRAY, 8),
+            (b"LNT5", STATION, 1),
+            (b" LNT 5", STATION, 1),
+            (b"100 LNT 5", STATION, 1),
+            (b"1 lnt 5", COMMAND, 3),
+            (b"42 lnt x", COMMAND, 4),
+            (b"1 LNTB", COMMAND, 3),
+            (b"1  LNT 5", COMMAND, 3),
+            (b"42 ", COMMAND, 4),
+            (b"42  ", COMMAND, 4),
+            // Fields lack, or stand empty.
+            (b"1 LNT", SHAPE, 6),
+            (b"1 LNT ", SHAPE, 7),
+            (b"1 LNT  ", SHAPE, 7),
+            (b"1 LNT  5", SHAPE, 7),
+            (b"1 SNT 5", SHAPE, 8),
+            (b"1 SNT 5 ", SHAPE, 9),
+            (b"1 SNL 5 1 2 3", SHAPE, 14),
+            (b"1 SNL 5 1 2 3 ", SHAPE, 15),
+            (b"1 SNL 5 1  3 4", SHAPE, 11),
+            // Surplus fields.
+            (b"1 LNT 5 6", SHAPE, 9),
+            (b"1 LNT 5 ", SHAPE, 9),
+            (b"1 LNT 5  ", SHAPE, 9),
+            (b"1 LNT 16 x y", SHAPE, 10),
+            (b"1 SNL 5 1 2 3 4 5", SHAPE, 17),
+            // A malformed field among those expected goes before the count.
+            (b"1 LNT x 6", SHAPE, 7),
+            (b"1 SNT 5 1.x 6", SHAPE, 9),
+            (b"1 SNT x", SHAPE, 7),
+            (b"1 SNL 5 1 -", SHAPE, 11),
+            (b"1 SNL 500 1 2.345 + 4 5", SHAPE, 13),
+            (b"1 SNOB 999 2 2", SHAPE, 14),
+            (b"1 SNOD 32 00256", SHAPE, 11),
+            (b"1 SND 5 -1", SHAPE, 9),
+            (b"42 SNL 5 -0 1.0 00001 4", SHAPE, 17),
+            (b"1 LNT 16", NUMBER, 7),
+            (b"42 SNOD 32 256", NUMBER, 9),
+            (b"1 SNBB 255 1", NUMBER, 8),
+            (b"1 SNT 0005 -0.01", VALUE, 12),
+            (b"42 SNBB 256 2", VALUE, 13),
+        ];
+        for (text, number, position) in cases {
+            assert_eq!(wrong_at(text), (number, position), "{}", String::from_utf8_lossy(text));
+        }
+    }
+
+    #[test]
+    fn no_position() {
+        let mut tables = Tables::new();
+        assert_eq!(setup(&mut tables, &[1, 2, 3, 4]), 0);
+        let mut area = [0; REPLY_ROOM];
+        let slice = b"\x021 LNT 5\x03\x51";
+        for (slice, room, number) in [
+            (&slice[..], REPLY_ROOM - 1, ROOM),
+            (&slice[..5], REPLY_ROOM, LENGTH),
+            (&[], REPLY_ROOM, LENGTH),
+            (&[STX; 256], REPLY_ROOM, LENGTH),
+            (&slice[1..], REPLY_ROOM, START),
+            (&slice[..9], REPLY_ROOM, END),
+            (b"\x021 LNT 5\x03\x50", REPLY_ROOM, LRC),
+        ] {
+            let sent = serve(&mut tables, slice, &mut area[..room]);
+            assert_eq!(sent, Sent { number, length: 0, position: 0 });
+        }
     }
 
     #[test]
