@@ -20,7 +20,7 @@ use Rattle.model.specs.Box.{respond}
 use Rattle.gateway.specs.Serving.{BodyServed}
 use Rattle.harl.proofs.Accepted.{accepted-in-range}
 use Rattle.bodies.proofs.Bodies.{outcome-length, performed-text, refusal-length, frame-fits}
-use Rattle.harl.proofs.Laws.{judged-accepted, judged-refused, wrote-all}
+use Rattle.harl.proofs.Laws.{body-judged, body-refused, wrote-all}
 use Rattle.gateway.proofs.serve.serve_body.Statement.{statement}
 use Rattle.gateway.proofs.serve.serve_body.Tie as tie
 
@@ -56,7 +56,7 @@ perform-requires c κs =
     let v = c .before .before .before .before .before .before .before .before .before .before in
     let b = v .before .before in
     let a = b .before .before .before .before in
-    (a .pre .0 .0, accepted-in-range _ (v .judged .given .0 .0) (judged-accepted (a .args .slice .now) (b .read-body .ensures) (v .judged .given .1)))
+    (a .pre .0 .0, accepted-in-range _ (v .judged .given .0 .0) (body-judged (a .args .slice .now) (b .read-body .ensures) (v .judged .given .1)))
 
 put-reply-requires : tie.Need-put-reply-requires
 put-reply-requires c κs = search needs
@@ -77,7 +77,7 @@ returns c =
     let v = p .before .before .before .before .before .before .before .before .before .before .before in
     let b = v .before .before in
     let a = b .before .before .before .before in
-    asked-served (a .pre .0 .1) (judged-accepted (a .args .slice .now) (b .read-body .ensures) (v .judged .given .1)) (p .perform .ensures) (w .put-reply .ensures)
+    asked-served (a .pre .0 .1) (body-judged (a .args .slice .now) (b .read-body .ensures) (v .judged .given .1)) (p .perform .ensures) (w .put-reply .ensures)
 
 same-length-2 : tie.Need-same-length-2
 same-length-2 c = search needs
@@ -88,7 +88,10 @@ returns-2 c =
     let v = w .before .before .before in
     let b = v .before .before in
     let a = b .before .before .before .before in
-    refused-served (a .pre .0 .1) (judged-refused (a .args .slice .now) (b .read-body .ensures) (v .judged2 .given .1)) (w .put-refused .ensures)
+    let s = a .args .slice .now in
+    let e = b .read-body .ensures in
+    let g = v .judged2 .given .1 in
+    refused-served (a .pre .0 .1) (body-judged s e g, body-refused s e g) (w .put-refused .ensures)
 
 pub serve-body-spec : {M : Type 1} → statement M
 serve-body-spec =
