@@ -8,6 +8,7 @@ use frame::reader::read_frame;
 use frame::writer::close_frame;
 use frame::writer::open_frame;
 use harl::message::Sent;
+use harl::message::refusal;
 use tables::perform::perform;
 ghost use mathlib.Core.Path.{_≡_};
 ghost use Prim.Native.Nat.{_≤_, _<_};
@@ -149,22 +150,14 @@ pub fn serve(
     ensures { λ r. ⌜ Served (box (now (stations .entry)) (tables (now (timers .entry)) (now (registers .entry)) (now (x .entry)) (now (y .entry)) (now (z .entry)) (now (w .entry)) (now (inputs .entry)) (now (outputs .entry)) (now (memory .entry)))) (now (slice .entry)) (now (reply .entry)) r (tables (now (timers .exit)) (now (registers .exit)) (now (x .exit)) (now (y .exit)) (now (z .exit)) (now (w .exit)) (now (inputs .exit)) (now (outputs .exit)) (now (memory .exit))) (now (reply .exit)) ⌝ }
 {
     if reply.len() < 64 {
-        return Sent {
-            number: 1,
-            length: 0,
-            position: 0,
-        };
+        return refusal(1, 0);
     }
     let mut number: u8 = 0;
     let mut station: u8 = 0;
     let mut position: usize = 0;
     let body = read_frame(slice, &mut number, &mut station, &mut position);
     if number != 0 {
-        return Sent {
-            number,
-            length: 0,
-            position,
-        };
+        return refusal(number, position);
     }
     let found = find_slot(stations, station);
     match found {
@@ -184,10 +177,6 @@ pub fn serve(
             body,
             reply,
         ),
-        Found::Nowhere => Sent {
-            number: 8,
-            length: 0,
-            position: 0,
-        },
+        Found::Nowhere => refusal(8, 0),
     }
 }

@@ -22,7 +22,8 @@ use Rattle.data.specs.Ranges.{allInRange}
 use Rattle.bodies.specs.Body.{readBody}
 use Rattle.bodies.specs.Position.{bodyPosition, judgedAt}
 use Rattle.bodies.specs.Reply.{contentOf, codeOf, dataFit, judgeOutcome}
-use Rattle.harl.specs.Message.{Wrote}
+use Rattle.harl.specs.declared.message.Sent.{Sent}
+use Rattle.harl.specs.Message.{unsent, Wrote}
 
 -- ---- refusal numbers, which are 0 where a check passes
 
@@ -86,8 +87,8 @@ module _ (slice : List ℕ) {j : JudgedBody} (e : j ≡ judgedAt (bodyPosition s
 
 -- ---- what a writer answers
 
-pub wrote-none : {n p : ℕ} {xs : List ℕ} → Wrote (record { number = n; position = p; bytes = [] }) xs (record { number = n; length = 0; position = p }) xs
-wrote-none = record { number = refl; position = refl; length-is = refl; fits = omega arith; area = refl }
+pub wrote-none : {n p : ℕ} {xs : List ℕ} {sent : Sent} → sent ≡ unsent n p → Wrote (record { number = n; position = p; bytes = [] }) xs sent xs
+wrote-none e = rw e (record { number = refl; position = refl; length-is = refl; fits = omega arith; area = refl })
 
 pub wrote-all : {n p r : ℕ} {bytes xs ys : List ℕ} → PutAt xs 0 bytes r ys → length bytes ≤ length xs → Wrote (record { number = n; position = p; bytes = bytes }) xs (record { number = n; length = r; position = p }) ys
 wrote-all w fits = record { number = refl; position = refl; length-is = omega (arith, w .next); fits = fits; area = w .area }

@@ -90,6 +90,10 @@ pub record Message : Type 0 where
 abbrev pub message : ℕ → List ℕ → Message
 message n bytes = record { number = n; position = 0; bytes = cond (eqb n 0) bytes [] }
 
+-- what is returned of a refusal, with which nothing is written
+abbrev pub unsent : ℕ → ℕ → Sent
+unsent n position = record { number = n; length = 0; position = position }
+
 -- the area holds the message's bytes at its front, and is untouched past them
 pub record Wrote (m : Message) (before : List ℕ) (sent : Sent) (after : List ℕ) : Type 0 where
   pub number : sent .number ≡ m .number

@@ -17,7 +17,7 @@ use frame::writer::close_frame;
 use frame::writer::open_frame;
 ghost use mathlib.Core.Path.{_≡_};
 ghost use lib.ListN.{length};
-ghost use Rattle.harl.specs.Message.{judgeAsked, askedValues, readRequest, writeRequest, writeReply, Wrote, answeredValues, readReply};
+ghost use Rattle.harl.specs.Message.{judgeAsked, askedValues, readRequest, writeRequest, writeReply, unsent, Wrote, answeredValues, readReply};
 
 // What a slice is as a request: its station and the request, or the number of its refusal and the position where it is
 // wrong, 0 where there is none to tell.
@@ -39,6 +39,17 @@ pub struct Sent {
     pub number: u8,
     pub length: usize,
     pub position: usize,
+}
+
+// A refusal, with which nothing is written.
+pub fn refusal(number: u8, position: usize) -> Sent
+    ensures { λ r. ⌜ r ≡ unsent number position ⌝ }
+{
+    Sent {
+        number,
+        length: 0,
+        position,
+    }
 }
 
 // Checks 7, 11 and 12 of a typed request, in that order; 0 where all pass.
@@ -82,19 +93,11 @@ pub fn write_request(area: &mut [u8], station: u8, request: Request) -> Sent
     ensures { λ r. ⌜ Wrote (writeRequest (length (now (area .entry))) station request) (now (area .entry)) r (now (area .exit)) ⌝ }
 {
     if area.len() < 64 {
-        return Sent {
-            number: 1,
-            length: 0,
-            position: 0,
-        };
+        return refusal(1, 0);
     }
     let number = judge_asked(station, request);
     if number != 0 {
-        return Sent {
-            number,
-            length: 0,
-            position: 0,
-        };
+        return refusal(number, 0);
     }
     let at = open_frame(area, station);
     let end = put_body(area, at, parts_of(request));
@@ -111,30 +114,18 @@ pub fn write_reply(area: &mut [u8], station: u8, request: Request, outcome: Outc
     ensures { λ r. ⌜ Wrote (writeReply (length (now (area .entry))) station request outcome) (now (area .entry)) r (now (area .exit)) ⌝ }
 {
     if area.len() < 64 {
-        return Sent {
-            number: 1,
-            length: 0,
-            position: 0,
-        };
+        return refusal(1, 0);
     }
     let asked = judge_asked(station, request);
     if asked != 0 {
-        return Sent {
-            number: asked,
-            length: 0,
-            position: 0,
-        };
+        return refusal(asked, 0);
     }
     let parts = parts_of(request);
     let command = parts.command;
     let rule = rule_of(command);
     let number = judge_outcome(rule, outcome);
     if number != 0 {
-        return Sent {
-            number,
-            length: 0,
-            position: 0,
-        };
+        return refusal(number, 0);
     }
     let at = open_frame(area, station);
     let past = put_outcome(area, at, rule.store, outcome);

@@ -9,6 +9,7 @@ use lib.ListN.{length}
 use Rattle.frame.specs.Frame.{Read, readFrame, framePosition}
 use Rattle.harl.specs.declared.message.Sent.{Sent}
 use Rattle.bodies.specs.Body.{readBody}
+use Rattle.harl.specs.Message.{unsent}
 use Rattle.harl.proofs.Laws.{wrote-none}
 use Rattle.tables.specs.Tables.{Tables}
 use Rattle.gateway.specs.declared.serve.Found.the-variants as found
@@ -55,11 +56,11 @@ module _ (st slice : List ℕ) (room : ℕ) (h : 64 ≤ room) {n s : ℕ} {body 
 -- ---- what is served
 
 module _ {st slice xs : List ℕ} {t : Tables} where
-  unanswered-served : {n p : ℕ} → decide st (serve slice (length xs)) ≡ unanswered n p → Served (box st t) slice xs (record { number = n; length = 0; position = p }) t xs
+  unanswered-served : {n p : ℕ} {sent : Sent} → decide st (serve slice (length xs)) ≡ unanswered n p → sent ≡ unsent n p → Served (box st t) slice xs sent t xs
   unfolding answer after perform respond
-  unanswered-served e =
+  unanswered-served e q =
       record {
-        answer-is = rw e wrote-none;
+        answer-is = rw e (wrote-none q);
         tables-are = rw e;
       }
 
@@ -69,18 +70,18 @@ module _ {st slice xs : List ℕ} {t : Tables} where
 
 returns : tie.Need-returns
 returns c =
-    let a = c .before .before .before .args in
-    unanswered-served (no-room (a .stations .now) (a .slice .now) (length (a .reply .now)) (c .if1 .taken))
+    let a = c .before .before .before .before .args in
+    unanswered-served (no-room (a .stations .now) (a .slice .now) (length (a .reply .now)) (c .before .if1 .taken)) (c .refusal .ensures)
 
 read-frame-requires : tie.Need-read-frame-requires
 read-frame-requires c κs = search needs
 
 returns-2 : tie.Need-returns-2
 returns-2 c =
-    let f = c .before in
+    let f = c .before .before in
     let i = f .before .before .before .before in
     let a = i .before .before .before .args in
-    unanswered-served (unread (a .stations .now) (a .slice .now) (length (a .reply .now)) (i .if1 .left) (f .read-frame .ensures .0) (f .read-frame .ensures .1) (c .if2 .taken))
+    unanswered-served (unread (a .stations .now) (a .slice .now) (length (a .reply .now)) (i .if1 .left) (f .read-frame .ensures .0) (f .read-frame .ensures .1) (c .before .if2 .taken)) (c .refusal2 .ensures)
 
 find-slot-requires : tie.Need-find-slot-requires
 find-slot-requires c κs = search needs
@@ -120,11 +121,11 @@ returns-3 c =
 
 returns-4 : tie.Need-returns-4
 returns-4 c =
-    let l = c .before .before in
+    let l = c .before .before .before in
     let f = l .before .before in
     let i = f .before .before .before .before in
     let a = i .before .before .before .args in
-    unanswered-served (absent (a .stations .now) (a .slice .now) (length (a .reply .now)) (i .if1 .left) (f .read-frame .ensures .0) (l .before .if2 .left) (sym (l .find-slot .ensures) ∙ c .enum-told .given .1))
+    unanswered-served (absent (a .stations .now) (a .slice .now) (length (a .reply .now)) (i .if1 .left) (f .read-frame .ensures .0) (l .before .if2 .left) (sym (l .find-slot .ensures) ∙ c .before .enum-told .given .1)) (c .refusal3 .ensures)
 
 pub serve-spec : {M : Type 1} → statement M
 serve-spec =

@@ -17,7 +17,7 @@ use Rattle.harl.proofs.message.write_reply.Tie as tie
 
 returns : tie.Need-returns
 unfolding writeReply judgeReply
-returns c = rw (lt-ltb _ _ (c .if1 .taken)) wrote-none
+returns c = rw (lt-ltb _ _ (c .before .if1 .taken)) (wrote-none (c .refusal .ensures))
 
 judge-asked-requires : tie.Need-judge-asked-requires
 judge-asked-requires c κs = search needs
@@ -25,9 +25,9 @@ judge-asked-requires c κs = search needs
 returns-2 : tie.Need-returns-2
 unfolding writeReply judgeReply
 returns-2 c =
-    let j = c .before in
-    let n = ne-eqb _ _ (c .if2 .taken) in
-    rw (le-ltb _ _ (j .before .if1 .left), ← j .judge-asked .ensures, n, n) wrote-none
+    let j = c .before .before in
+    let n = ne-eqb _ _ (c .before .if2 .taken) in
+    rw (le-ltb _ _ (j .before .if1 .left), ← j .judge-asked .ensures, n, n) (wrote-none (c .refusal2 .ensures))
 
 parts-of-requires : tie.Need-parts-of-requires
 parts-of-requires c κs = search needs
@@ -41,10 +41,10 @@ judge-outcome-requires c κs = search needs
 returns-3 : tie.Need-returns-3
 unfolding writeReply judgeReply
 returns-3 c =
-    let v = c .before in
+    let v = c .before .before in
     let p = v .before .before in
     let j = p .before .before in
-    rw (le-ltb _ _ (j .before .if1 .left), ← j .judge-asked .ensures, eq-eqb _ _ (p .before .if2 .left), ← p .parts-of .ensures, ← v .before .rule-of .ensures, ← v .judge-outcome .ensures, ne-eqb _ _ (c .if3 .taken)) wrote-none
+    rw (le-ltb _ _ (j .before .if1 .left), ← j .judge-asked .ensures, eq-eqb _ _ (p .before .if2 .left), ← p .parts-of .ensures, ← v .before .rule-of .ensures, ← v .judge-outcome .ensures, ne-eqb _ _ (c .before .if3 .taken)) (wrote-none (c .refusal3 .ensures))
 
 open-frame-requires : tie.Need-open-frame-requires
 open-frame-requires c κs =
@@ -90,12 +90,15 @@ pub write-reply-spec : {M : Type 1} → statement M
 write-reply-spec =
     tie.close
     (tie.spec
+    (λ c κs. search needs)
     returns
     judge-asked-requires
+    (λ c κs. search needs)
     returns-2
     parts-of-requires
     rule-of-requires
     judge-outcome-requires
+    (λ c κs. search needs)
     returns-3
     open-frame-requires
     put-outcome-requires

@@ -17,7 +17,7 @@ use Rattle.harl.proofs.message.write_request.Tie as tie
 
 returns : tie.Need-returns
 unfolding writeRequest
-returns c = rw (lt-ltb _ _ (c .if1 .taken)) wrote-none
+returns c = rw (lt-ltb _ _ (c .before .if1 .taken)) (wrote-none (c .refusal .ensures))
 
 judge-asked-requires : tie.Need-judge-asked-requires
 judge-asked-requires c κs = search needs
@@ -25,8 +25,8 @@ judge-asked-requires c κs = search needs
 returns-2 : tie.Need-returns-2
 unfolding writeRequest
 returns-2 c =
-    let j = c .before in
-    rw (le-ltb _ _ (j .before .if1 .left), ← j .judge-asked .ensures, ne-eqb _ _ (c .if2 .taken)) wrote-none
+    let j = c .before .before in
+    rw (le-ltb _ _ (j .before .if1 .left), ← j .judge-asked .ensures, ne-eqb _ _ (c .before .if2 .taken)) (wrote-none (c .refusal2 .ensures))
 
 open-frame-requires : tie.Need-open-frame-requires
 open-frame-requires c κs =
@@ -71,8 +71,10 @@ pub write-request-spec : {M : Type 1} → statement M
 write-request-spec =
     tie.close
     (tie.spec
+    (λ c κs. search needs)
     returns
     judge-asked-requires
+    (λ c κs. search needs)
     returns-2
     open-frame-requires
     parts-of-requires
