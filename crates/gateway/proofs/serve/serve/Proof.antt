@@ -131,13 +131,16 @@ pub serve-spec : {M : Type 1} → statement M
 serve-spec =
     tie.close
     (tie.spec
+    (λ c κs. search needs)
     returns
     read-frame-requires
+    (λ c κs. search needs)
     returns-2
     find-slot-requires
     enum-known-found
     serve-body-requires
     enum-told
+    (λ c κs. search needs)
     same-length
     returns-3
     returns-4)
