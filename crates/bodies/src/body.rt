@@ -30,8 +30,7 @@ ghost use Rattle.commands.specs.Command.{ruleOf};
 ghost use Rattle.bodies.specs.Body.{requestOrRefusal, readBody, bodyText};
 ghost use Rattle.bodies.specs.Position.{fieldsPosition, bodyPosition, shapeIn, refusedAt, judgedAt};
 
-// What the fields after a name are: a number, data, and where the data start. Where they are not, with the position where
-// they are wrong.
+// What the fields after a name are: a number, data, and where the data start; or the position where they are wrong.
 pub enum Shape {
     Of(u16, Row, usize),
     Malformed(usize),
