@@ -1,15 +1,15 @@
 -- Where data out of range stand: at the first field. A row that was read is in range, since 4 digits and two decimals are
 -- at most 9999.99, and every other kind has one field.
-use Prim.Native.Nat.{ℕ, zero, suc, _≤_, _<_}
-use mathlib.Core.Path.{_≡_, refl, sym, ap, subst, _∙_}
-use mathlib.Core.Bool.{Bool, true, false, cond, _&&_}
+use Prim.Native.Nat.{ℕ, zero, suc}
+use mathlib.Core.Path.{_≡_, refl, sym, subst, _∙_}
+use mathlib.Core.Bool.{Bool, true, false, cond}
 use mathlib.Core.List.{List, [], _∷_, map}
 use mathlib.Core.Option.{Option, none, some, Option·map}
 use native.Mathlib.Omega.{arith}
 use borrow.Author.Tests.{le-ltb}
 use lib.Dec.{eqb}
-use lib.IntN.{ℤ, pos, negsuc, negℤ}
-use lib.ListN.{getD, drop, replicate}
+use lib.IntN.{ℤ, pos}
+use lib.ListN.{getD, drop}
 use Rattle.text.specs.Hundredths.{Small, magnitude, signed, readHundredths}
 use Rattle.text.specs.declared.hundredths.Magnitude.{Magnitude}
 use Rattle.text.specs.declared.hundredths.Magnitude.the-variants.{Size, Unreadable}

@@ -1,14 +1,13 @@
 -- The body stands where its length puts it, before ETX.
-use Prim.Native.Nat.{ℕ, _-_, _≤_}
-use mathlib.Core.Path.{_≡_, refl, sym, ap, _∙_}
+use Prim.Native.Nat.{ℕ, _-_}
+use mathlib.Core.Path.{_≡_, sym, ap, _∙_}
 use mathlib.Core.List.{List}
 use native.Mathlib.Omega.{arith}
-use borrow.Author.Needs.{needs}
 use lib.ListN.{length, take, drop}
 use lib.Seq.{length-take-le}
 use Rattle.frame.specs.Fields.{placed}
-use Rattle.frame.specs.Frame.{readFrame, bodyStart}
-use Rattle.frame.proofs.Placed.{BodyPlace, body-place}
+use Rattle.frame.specs.Frame.{readFrame}
+use Rattle.frame.proofs.Placed.{body-place}
 use Rattle.bodies.specs.Body.{readBody}
 use Rattle.bodies.specs.Position.{fieldsPosition, bodyPosition, judgedAt}
 use Rattle.bodies.proofs.body.read_body.Statement.{statement}

@@ -1,14 +1,14 @@
 -- `name` is where the name was read, `k` its command, `r` the command's rule, `s` where the fields after it were read, and
 -- `start` where the function starts.
 use Prim.Native.Nat.{ℕ, _+_, _≤_}
-use mathlib.Core.Path.{_≡_, refl, sym, ap, ap₂, _∙_}
-use mathlib.Core.Bool.{Bool, false, cond}
-use mathlib.Core.List.{List, [], _∷_, map}
+use mathlib.Core.Path.{_≡_, refl, sym, ap, _∙_}
+use mathlib.Core.Bool.{false, cond}
+use mathlib.Core.List.{List, [], _∷_}
 use mathlib.Core.Option.{Option, none, some}
 use native.Mathlib.Omega.{arith}
 use borrow.Author.Needs.{needs}
 use lib.Dec.{eqb}
-use lib.ListN.{length, drop, length-drop}
+use lib.ListN.{length, drop}
 use Rattle.text.specs.Scan.{fieldAt, endAt}
 use Rattle.text.proofs.Laws.{rest}
 use Rattle.frame.specs.Fields.{Placed, placedMore, placed, startOf, offending}
@@ -22,7 +22,6 @@ use Rattle.commands.specs.declared.request.Row.{Row}
 use Rattle.commands.specs.Command.{commandOf, ruleOf}
 use Rattle.bodies.specs.declared.body.Shape.{Shape}
 use Rattle.bodies.specs.declared.body.Shape.the-variants as shape
-use Rattle.bodies.specs.declared.body.Judged.{Judged}
 use Rattle.bodies.specs.declared.body.JudgedBody.{JudgedBody}
 use Rattle.bodies.specs.Body.{readShape, requestOrRefusal, shaped, afterName, ofFields, readBody}
 use Rattle.bodies.specs.Position.{forms, ranges, afterNamePosition, fieldsPosition, shapeAt, shapeIn, refusedAt, judgedAt}
