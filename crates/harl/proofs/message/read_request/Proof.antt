@@ -1,8 +1,8 @@
 -- `f` is where the frame was read, and `b` where its body was.
-use mathlib.Core.Path.{sym, _∙_}
+use mathlib.Core.Path.{sym, ap, _∙_}
 use borrow.Author.Needs.{needs}
 use borrow.Author.Tests.{eq-eqb, ne-eqb}
-use Rattle.harl.specs.Message.{readRequest}
+use Rattle.harl.specs.Message.{noRequest, readRequest}
 use Rattle.harl.proofs.Laws.{body-judged, body-refused}
 use Rattle.harl.proofs.message.read_request.Statement.{statement}
 use Rattle.harl.proofs.message.read_request.Tie as tie
@@ -41,7 +41,7 @@ returns-3 c =
     let f = b .before .before in
     let s = f .before .before .before .before .before .args .slice .now in
     let g = c .before .judged2 .given .1 in
-    rw (← f .read-frame .ensures .0 .number-is, eq-eqb _ _ (b .before .if1 .left), body-judged s (b .read-body .ensures) g, body-refused s (b .read-body .ensures) g)
+    rw (← f .read-frame .ensures .0 .number-is, eq-eqb _ _ (b .before .if1 .left), body-judged s (b .read-body .ensures) g) (ap (noRequest (c .before .judged2 .given .0 .0)) (body-refused s (b .read-body .ensures) g))
 
 pub read-request-spec : {M : Type 1} → statement M
 read-request-spec =
