@@ -1,9 +1,9 @@
 // The entries of libllamput.a, which `rt staticlib llamput` writes for programs on x86-64 Linux.
 //
 // The caller owns all memory. No two areas overlap. No pointer is null; one to an area of length 0 may be any other.
-// The tables of a box come in the order timers, registers, x, y, z, w, inputs, outputs, memory. The first index of each
-// is the slot. Timers, x, y, z and w are in hundredths; inputs, outputs and memory are ports of eight bits.
-// stations has the station of each slot, 0 where it is unfitted.
+// The tables of a box come in the order timers, registers, x, y, z, w, inputs, outputs, memory, on. The first index of each
+// is the slot. Timers, x, y, z and w are in hundredths; inputs, outputs and memory are ports of eight bits; on has the number
+// of outputs that are on, which setup and serving keep. stations has the station of each slot, 0 where it is unfitted.
 //
 // Refusal numbers, in the order checked; 0 is no refusal:
 //   1 ROOM     the reply area is under 64 bytes          8 ABSENT   no fitted arm has the station
@@ -32,24 +32,36 @@ struct llamput_sent {
     size_t position;
 };
 
+// What llamput_outputs_on returns: the refusal number, or 0; and how many outputs are on, 0 where it refuses.
+struct llamput_count {
+    uint8_t number;
+    uint16_t count;
+};
+
 // Sets up a new box, whatever the memory held: every table zero, each slot with its station from want, 0 for none.
 // Returns 0, or 13 where it refuses: then every table is zero and no slot is fitted.
 uint8_t llamput_setup(uint16_t timers[4][16], uint16_t registers[4][64], int32_t x[4][100], int32_t y[4][100],
                       int32_t z[4][100], int32_t w[4][100], uint8_t inputs[4][32], uint8_t outputs[4][32],
-                      uint8_t memory[4][16], uint8_t stations[4], const uint16_t want[4]);
+                      uint8_t memory[4][16], uint16_t on[4], uint8_t stations[4], const uint16_t want[4]);
 
 // Serves a slice that should be one frame: performs its request on the arm addressed, and writes the reply into reply.
 // Refusals 1 to 8 write no reply, 9 to 12 do; none changes a table. Bytes of reply past the length stay as they were.
 struct llamput_sent llamput_serve(uint16_t timers[4][16], uint16_t registers[4][64], int32_t x[4][100],
                                   int32_t y[4][100], int32_t z[4][100], int32_t w[4][100], uint8_t inputs[4][32],
-                                  uint8_t outputs[4][32], uint8_t memory[4][16], const uint8_t stations[4],
-                                  const uint8_t *slice, size_t slice_length, uint8_t *reply, size_t reply_length);
+                                  uint8_t outputs[4][32], uint8_t memory[4][16], uint16_t on[4],
+                                  const uint8_t stations[4], const uint8_t *slice, size_t slice_length, uint8_t *reply,
+                                  size_t reply_length);
 
 // Puts a byte into an input port of the slot's arm, as the arm's own wiring does.
 // Returns 0, or 14 where it refuses: then nothing changes.
 uint8_t llamput_input(uint16_t timers[4][16], uint16_t registers[4][64], int32_t x[4][100], int32_t y[4][100],
                       int32_t z[4][100], int32_t w[4][100], uint8_t inputs[4][32], uint8_t outputs[4][32],
-                      uint8_t memory[4][16], const uint8_t stations[4], size_t slot, uint16_t port, uint8_t byte);
+                      uint8_t memory[4][16], uint16_t on[4], const uint8_t stations[4], size_t slot, uint16_t port,
+                      uint8_t byte);
+
+// Tells how many of the 256 outputs of the slot's arm are on: the ones in its output ports, as kept in on.
+// Changes nothing. The number is 0, or 14 where it refuses a slot above 3 or unfitted.
+struct llamput_count llamput_outputs_on(const uint16_t on[4], const uint8_t stations[4], size_t slot);
 
 #ifdef __cplusplus
 }

@@ -40,6 +40,7 @@ fn answer_block(
     inputs: &mut [[u8; 32]; 4],
     outputs: &mut [[u8; 32]; 4],
     memory: &mut [[u8; 16]; 4],
+    on: &mut [u16; 4],
     stations: &[u8; 4],
     input: &[u8],
     held: &mut [u8],
@@ -48,7 +49,7 @@ fn answer_block(
 ) -> Progress
     requires { ⌜ Within (now held) (now out) start ⌝ }
     requires { ⌜ start .waiting + 132 ≤ 65536 ⌝ }
-    ensures { λ r. ⌜ BlockTaken (cellOf (now (stations .entry)) (tables (now (timers .entry)) (now (registers .entry)) (now (x .entry)) (now (y .entry)) (now (z .entry)) (now (w .entry)) (now (inputs .entry)) (now (outputs .entry)) (now (memory .entry))) (now (held .entry)) (now (out .entry)) start) (now (input .entry)) (cellOf (now (stations .entry)) (tables (now (timers .exit)) (now (registers .exit)) (now (x .exit)) (now (y .exit)) (now (z .exit)) (now (w .exit)) (now (inputs .exit)) (now (outputs .exit)) (now (memory .exit))) (now (held .exit)) (now (out .exit)) r) ⌝ }
+    ensures { λ r. ⌜ BlockTaken (cellOf (now (stations .entry)) (tables (now (timers .entry)) (now (registers .entry)) (now (x .entry)) (now (y .entry)) (now (z .entry)) (now (w .entry)) (now (inputs .entry)) (now (outputs .entry)) (now (memory .entry)) (now (on .entry))) (now (held .entry)) (now (out .entry)) start) (now (input .entry)) (cellOf (now (stations .entry)) (tables (now (timers .exit)) (now (registers .exit)) (now (x .exit)) (now (y .exit)) (now (z .exit)) (now (w .exit)) (now (inputs .exit)) (now (outputs .exit)) (now (memory .exit)) (now (on .exit))) (now (held .exit)) (now (out .exit)) r) ⌝ }
     ensures { λ r. ⌜ Within (now (held .exit)) (now (out .exit)) r ⌝ }
     ensures { λ r. ⌜ r .waiting + 132 ≤ 65536 ⌝ }
 {
@@ -65,6 +66,7 @@ fn answer_block(
             inputs,
             outputs,
             memory,
+            on,
             stations,
             &input[i..],
             held,
@@ -102,6 +104,7 @@ fn answer_blocks(
     inputs: &mut [[u8; 32]; 4],
     outputs: &mut [[u8; 32]; 4],
     memory: &mut [[u8; 16]; 4],
+    on: &mut [u16; 4],
     stations: &[u8; 4],
     input: &mut [u8],
     held: &mut [u8],
@@ -127,6 +130,7 @@ fn answer_blocks(
             inputs,
             outputs,
             memory,
+            on,
             stations,
             front(input, n),
             held,
@@ -150,6 +154,7 @@ fn answer_rest(
     inputs: &mut [[u8; 32]; 4],
     outputs: &mut [[u8; 32]; 4],
     memory: &mut [[u8; 16]; 4],
+    on: &mut [u16; 4],
     stations: &[u8; 4],
     held: &[u8],
     out: &mut [u8],
@@ -168,6 +173,7 @@ fn answer_rest(
         inputs,
         outputs,
         memory,
+        on,
         stations,
         held,
         out,
@@ -187,6 +193,7 @@ fn answer_all(
     inputs: &mut [[u8; 32]; 4],
     outputs: &mut [[u8; 32]; 4],
     memory: &mut [[u8; 16]; 4],
+    on: &mut [u16; 4],
     stations: &[u8; 4],
 ) {
     let mut input = io::large_buffer();
@@ -202,6 +209,7 @@ fn answer_all(
         inputs,
         outputs,
         memory,
+        on,
         stations,
         &mut input[..],
         &mut held[..],
@@ -217,6 +225,7 @@ fn answer_all(
         inputs,
         outputs,
         memory,
+        on,
         stations,
         &held[..],
         &mut out[..],
@@ -235,6 +244,7 @@ fn main() {
     let mut inputs = [[0u8; 32]; 4];
     let mut outputs = [[0u8; 32]; 4];
     let mut memory = [[0u8; 16]; 4];
+    let mut on = [0u16; 4];
     let mut stations = [0u8; 4];
     setup(
         &mut timers,
@@ -246,6 +256,7 @@ fn main() {
         &mut inputs,
         &mut outputs,
         &mut memory,
+        &mut on,
         &mut stations,
         [1, 2, 3, 4],
     );
@@ -259,6 +270,7 @@ fn main() {
         &mut inputs,
         &mut outputs,
         &mut memory,
+        &mut on,
         &stations,
     );
 }

@@ -6,8 +6,8 @@ use mathlib.Core.List.{List}
 use native.Mathlib.Omega.{arith}
 use borrow.Author.Tests.{eqb-true}
 use lib.Dec.{eqb}
-use Rattle.tables.specs.Place.{placeOf}
-use Rattle.tables.proofs.Laws.{all, all-at}
+use Rattle.ports.specs.Place.{placeOf}
+use Rattle.ports.proofs.Laws.{all, all-at}
 use Rattle.charts.specs.Chart.{entry, Charted}
 
 -- the signal at bit i % 8 of port i / 8 is first + i

@@ -3,7 +3,7 @@ use Prim.Native.Nat.{ℕ, _+_, _-_, _*_, _<_}
 use mathlib.Core.Path.{_≡_}
 use mathlib.Core.List.{List, []}
 use lib.ListN.{getD}
-use Rattle.tables.specs.Place.{placeOf}
+use Rattle.ports.specs.Place.{placeOf}
 
 -- what a chart has for bit b of port p: a row for each port, highest bit first
 abbrev pub entry : List (List ℕ) → ℕ → ℕ → ℕ

@@ -6,10 +6,10 @@ mod printed; // printed.rt: the charts as printed
 use crate::printed::memory_bits;
 use crate::printed::signals;
 use commands::request::Signal;
+use ports::place::memory_place;
+use ports::place::signal_place;
 use print::put;
 use print::put_whole;
-use tables::place::memory_place;
-use tables::place::signal_place;
 
 enum Chart {
     Signals,

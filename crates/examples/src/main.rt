@@ -7,7 +7,8 @@ mod run; // run.rt: the script run line by line
 
 use crate::run::run;
 
-// The tables by the documents' letters: t, d, x, y, z, w, i, o, and m for the memory bits; s the stations.
+// The tables by the documents' letters: t, d, x, y, z, w, i, o, and m for the memory bits; on the numbers of outputs
+// that are on; s the stations.
 fn main() {
     let mut t = [[0u16; 16]; 4];
     let mut d = [[0u16; 64]; 4];
@@ -18,6 +19,7 @@ fn main() {
     let mut i = [[0u8; 32]; 4];
     let mut o = [[0u8; 32]; 4];
     let mut m = [[0u8; 16]; 4];
+    let mut on = [0u16; 4];
     let mut s = [0u8; 4];
     run(
         &mut t,
@@ -29,6 +31,7 @@ fn main() {
         &mut i,
         &mut o,
         &mut m,
+        &mut on,
         &mut s,
         b"# Check 2: no bytes, and 5 bytes.\0\
           F\0\
@@ -93,6 +96,7 @@ fn main() {
         &mut i,
         &mut o,
         &mut m,
+        &mut on,
         &mut s,
         b"# Requests of each kind. One that is accepted is written too.\0\
           Q\x021 LNT 5\x03\x51\0\
@@ -241,6 +245,7 @@ fn main() {
         &mut i,
         &mut o,
         &mut m,
+        &mut on,
         &mut s,
         b"# Row 99 is the last. A refused row changes no arm's tables.\0\
           setup 1 2 3 4\0\
@@ -367,6 +372,128 @@ fn main() {
           setup 0 100 0 0\0\
           setup 0 0 0 0\0\
           setup 99 98 97 1\0\
+          # Outputs that are on (document 02, E7): all 256 by their ports.\0\
+          setup 8 0 2 0\0\
+          outputs on slot 0\0\
+          S\x028 SNOD 0 255\x03\x0f\0\
+          outputs on slot 0\0\
+          S\x028 SNOD 1 255\x03\x0e\0\
+          outputs on slot 0\0\
+          S\x028 SNOD 2 255\x03\x0d\0\
+          outputs on slot 0\0\
+          S\x028 SNOD 3 255\x03\x0c\0\
+          outputs on slot 0\0\
+          S\x028 SNOD 4 255\x03\x0b\0\
+          outputs on slot 0\0\
+          S\x028 SNOD 5 255\x03\x0a\0\
+          outputs on slot 0\0\
+          S\x028 SNOD 6 255\x03\x09\0\
+          outputs on slot 0\0\
+          S\x028 SNOD 7 255\x03\x08\0\
+          outputs on slot 0\0\
+          S\x028 SNOD 8 255\x03\x07\0\
+          outputs on slot 0\0\
+          S\x028 SNOD 9 255\x03\x06\0\
+          outputs on slot 0\0\
+          S\x028 SNOD 10 255\x03>\0\
+          outputs on slot 0\0\
+          S\x028 SNOD 11 255\x03?\0\
+          outputs on slot 0\0\
+          S\x028 SNOD 12 255\x03<\0\
+          outputs on slot 0\0\
+          S\x028 SNOD 13 255\x03=\0\
+          outputs on slot 0\0\
+          S\x028 SNOD 14 255\x03:\0\
+          outputs on slot 0\0\
+          S\x028 SNOD 15 255\x03;\0\
+          outputs on slot 0\0\
+          S\x028 SNOD 16 255\x038\0\
+          outputs on slot 0\0\
+          S\x028 SNOD 17 255\x039\0\
+          outputs on slot 0\0\
+          S\x028 SNOD 18 255\x036\0\
+          outputs on slot 0\0\
+          S\x028 SNOD 19 255\x037\0\
+          outputs on slot 0\0\
+          S\x028 SNOD 20 255\x03=\0\
+          outputs on slot 0\0\
+          S\x028 SNOD 21 255\x03<\0\
+          outputs on slot 0\0\
+          S\x028 SNOD 22 255\x03?\0\
+          outputs on slot 0\0\
+          S\x028 SNOD 23 255\x03>\0\
+          outputs on slot 0\0\
+          S\x028 SNOD 24 255\x039\0\
+          outputs on slot 0\0\
+          S\x028 SNOD 25 255\x038\0\
+          outputs on slot 0\0\
+          S\x028 SNOD 26 255\x03;\0\
+          outputs on slot 0\0\
+          S\x028 SNOD 27 255\x03:\0\
+          outputs on slot 0\0\
+          S\x028 SNOD 28 255\x035\0\
+          outputs on slot 0\0\
+          S\x028 SNOD 29 255\x034\0\
+          outputs on slot 0\0\
+          S\x028 SNOD 30 255\x03<\0\
+          outputs on slot 0\0\
+          S\x028 SNOD 31 255\x03=\0\
+          outputs on slot 0\0\
+          # One off by its signal, and again; a port written over itself; one on again; a port off, and a part of one.\0\
+          S\x028 SNOB 255 0\x03\x09\0\
+          outputs on slot 0\0\
+          S\x028 SNOB 255 0\x03\x09\0\
+          outputs on slot 0\0\
+          S\x028 SNOD 31 127\x03;\0\
+          outputs on slot 0\0\
+          S\x028 SNOD 30 255\x03<\0\
+          outputs on slot 0\0\
+          S\x028 SNOB 255 1\x03\x08\0\
+          outputs on slot 0\0\
+          S\x028 SNOB 255 1\x03\x08\0\
+          outputs on slot 0\0\
+          S\x028 SNOD 0 0\x03\x0d\0\
+          outputs on slot 0\0\
+          S\x028 SNOD 15 165\x03;\0\
+          outputs on slot 0\0\
+          # Inputs, memory bits, another arm and refused calls do not move the number.\0\
+          input slot 0 port 0 byte 255\0\
+          outputs on slot 0\0\
+          S\x028 SNBD 0 255\x03\x02\0\
+          outputs on slot 0\0\
+          S\x028 SNBB 256 0\x03\x07\0\
+          outputs on slot 0\0\
+          S\x022 SNOD 31 7\x032\0\
+          outputs on slot 0\0\
+          outputs on slot 2\0\
+          S\x028 SNOD 32 255\x03>\0\
+          outputs on slot 0\0\
+          S\x028 SNOD 0 256\x03\x0c\0\
+          outputs on slot 0\0\
+          S\x028 SNOB 256 1\x03\x0b\0\
+          outputs on slot 0\0\
+          S\x028 SNOB 0 2\x03\x09\0\
+          outputs on slot 0\0\
+          S\x023 SNOD 0 255\x03\x04\0\
+          outputs on slot 0\0\
+          S\x028 SNOD 0 255\x03\x0e\0\
+          outputs on slot 0\0\
+          outputs on slot 2\0\
+          # Slots above 3 and unfitted; a new box; a refused setup.\0\
+          outputs on slot 1\0\
+          outputs on slot 3\0\
+          outputs on slot 4\0\
+          outputs on slot 5\0\
+          outputs on slot 256\0\
+          outputs on slot 9999\0\
+          setup 0 3 0 0\0\
+          outputs on slot 0\0\
+          outputs on slot 1\0\
+          S\x023 SNOB 9 1\x03\x08\0\
+          outputs on slot 1\0\
+          setup 3 3 0 0\0\
+          outputs on slot 0\0\
+          outputs on slot 1\0\
           # The ranges of numbers and data by document 01; of LND (E2) and the fields of a row (E6) by document 02.\0\
           setup 1 0 0 0\0\
           R0 LNT -1 0 15 16\0\

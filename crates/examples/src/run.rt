@@ -48,7 +48,7 @@ fn read(line: &[u8]) {
     }
 }
 
-// Whether a line is a call on the tables: setup, other setup, input, S, N or R.
+// Whether a line is a call on the tables: setup, other setup, input, outputs, S, N or R.
 fn is_call(line: &[u8]) -> bool {
     match byte(line, 0) {
         b's' | b'o' | b'i' | b'S' | b'N' | b'R' => true,
@@ -67,12 +67,13 @@ fn step(
     i: &mut [[u8; 32]; 4],
     o: &mut [[u8; 32]; 4],
     m: &mut [[u8; 16]; 4],
+    on: &mut [u16; 4],
     s: &mut [u8; 4],
     line: &[u8],
-    before: [i32; 2240],
-) -> [i32; 2240] {
+    before: [i32; 2244],
+) -> [i32; 2244] {
     if is_call(line) {
-        return call(t, d, x, y, z, w, i, o, m, s, line, before);
+        return call(t, d, x, y, z, w, i, o, m, on, s, line, before);
     }
     read(line);
     before
@@ -89,12 +90,13 @@ pub fn run(
     i: &mut [[u8; 32]; 4],
     o: &mut [[u8; 32]; 4],
     m: &mut [[u8; 16]; 4],
+    on: &mut [u16; 4],
     s: &mut [u8; 4],
     script: &[u8],
 ) {
-    let mut before = [0; 2240];
+    let mut before = [0; 2244];
     for k in 0..count(script, 0) {
-        let after = step(t, d, x, y, z, w, i, o, m, s, part(script, 0, k), before);
+        let after = step(t, d, x, y, z, w, i, o, m, on, s, part(script, 0, k), before);
         before = after;
     }
 }

@@ -7,6 +7,7 @@ use crate::steps::Step;
 use crate::steps::put_label;
 use crate::steps::step_of;
 use commands::request::Port;
+use gateway::count::outputs_on;
 use gateway::input::input;
 use gateway::serve::serve;
 use gateway::setup::setup;
@@ -39,11 +40,12 @@ fn answer(
     i: &mut [[u8; 32]; 4],
     o: &mut [[u8; 32]; 4],
     m: &mut [[u8; 16]; 4],
+    on: &mut [u16; 4],
     s: &[u8; 4],
     slice: &[u8],
     area: &mut [u8],
 ) {
-    let sent = serve(t, d, x, y, z, w, i, o, m, s, slice, area);
+    let sent = serve(t, d, x, y, z, w, i, o, m, on, s, slice, area);
     put_written(sent.number, sent.length, b", no reply", area);
 }
 
@@ -58,6 +60,7 @@ fn set_up_other(want: [u16; 4]) {
     let mut i = [[7u8; 32]; 4];
     let mut o = [[7u8; 32]; 4];
     let mut m = [[7u8; 16]; 4];
+    let mut on = [7u16; 4];
     let mut s = [7u8; 4];
     put_two(setup(
         &mut t,
@@ -69,13 +72,14 @@ fn set_up_other(want: [u16; 4]) {
         &mut i,
         &mut o,
         &mut m,
+        &mut on,
         &mut s,
         want,
     ));
     put_stations(&s);
     put_zero(
         b", other tables",
-        &snapshot(&t, &d, &x, &y, &z, &w, &i, &o, &m),
+        &snapshot(&t, &d, &x, &y, &z, &w, &i, &o, &m, &on),
     );
 }
 
@@ -90,13 +94,14 @@ fn make(
     i: &mut [[u8; 32]; 4],
     o: &mut [[u8; 32]; 4],
     m: &mut [[u8; 16]; 4],
+    on: &mut [u16; 4],
     s: &mut [u8; 4],
     step: Step,
     rest: &[u8],
 ) {
     match step {
         Step::Setup(a, b, c, e) => {
-            put_two(setup(t, d, x, y, z, w, i, o, m, s, [a, b, c, e]));
+            put_two(setup(t, d, x, y, z, w, i, o, m, on, s, [a, b, c, e]));
             put_stations(s);
         }
         Step::Other(a, b, c, e) => set_up_other([a, b, c, e]),
@@ -110,19 +115,27 @@ fn make(
             i,
             o,
             m,
+            on,
             s,
             slot as usize,
             Port(port),
             byte,
         )),
+        Step::Outputs(slot) => {
+            let told = outputs_on(on, s, slot as usize);
+            put_two(told.number);
+            put(b", ");
+            put_whole(told.count as u64);
+            put(b" on");
+        }
         Step::Narrow => {
             let mut area = [0xaa; 63];
-            answer(t, d, x, y, z, w, i, o, m, s, rest, &mut area);
+            answer(t, d, x, y, z, w, i, o, m, on, s, rest, &mut area);
         }
-        Step::Ranges => try_row(t, d, x, y, z, w, i, o, m, s, rest),
+        Step::Ranges => try_row(t, d, x, y, z, w, i, o, m, on, s, rest),
         Step::Serve => {
             let mut area = [0xaa; 64];
-            answer(t, d, x, y, z, w, i, o, m, s, rest, &mut area);
+            answer(t, d, x, y, z, w, i, o, m, on, s, rest, &mut area);
         }
     }
 }
@@ -146,14 +159,15 @@ pub fn call(
     i: &mut [[u8; 32]; 4],
     o: &mut [[u8; 32]; 4],
     m: &mut [[u8; 16]; 4],
+    on: &mut [u16; 4],
     s: &mut [u8; 4],
     line: &[u8],
-    before: [i32; 2240],
-) -> [i32; 2240] {
+    before: [i32; 2244],
+) -> [i32; 2244] {
     let step = step_of(line);
     put_label(step, line);
-    make(t, d, x, y, z, w, i, o, m, s, step, rest(line));
-    let after = snapshot(t, d, x, y, z, w, i, o, m);
+    make(t, d, x, y, z, w, i, o, m, on, s, step, rest(line));
+    let after = snapshot(t, d, x, y, z, w, i, o, m, on);
     put_tables(step, &before, &after);
     after
 }

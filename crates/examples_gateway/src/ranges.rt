@@ -100,6 +100,7 @@ fn try_one(
     i: &mut [[u8; 32]; 4],
     o: &mut [[u8; 32]; 4],
     m: &mut [[u8; 16]; 4],
+    on: &mut [u16; 4],
     s: &[u8; 4],
     row: &[u8],
     trial: Trial,
@@ -120,6 +121,7 @@ fn try_one(
         i,
         o,
         m,
+        on,
         s,
         first_bytes(&area, length),
         &mut reply,
@@ -196,10 +198,11 @@ pub fn try_row(
     i: &mut [[u8; 32]; 4],
     o: &mut [[u8; 32]; 4],
     m: &mut [[u8; 16]; 4],
+    on: &mut [u16; 4],
     s: &[u8; 4],
     row: &[u8],
 ) {
     for n in 0..4 + 5 * count_of(row) {
-        try_one(t, d, x, y, z, w, i, o, m, s, row, trial_of(row, n));
+        try_one(t, d, x, y, z, w, i, o, m, on, s, row, trial_of(row, n));
     }
 }

@@ -53,9 +53,10 @@ fn entry(
     i: &[[u8; 32]; 4],
     o: &[[u8; 32]; 4],
     m: &[[u8; 16]; 4],
+    on: &[u16; 4],
     n: usize,
 ) -> i32
-    requires { ⌜ n < 2240 ⌝ }
+    requires { ⌜ n < 2244 ⌝ }
 {
     if n < 64 {
         return timer(t, n);
@@ -81,7 +82,10 @@ fn entry(
     if n < 2176 {
         return port(o, n - 2048);
     }
-    memory_port(m, n - 2176)
+    if n < 2240 {
+        return memory_port(m, n - 2176);
+    }
+    from_word(on[n - 2240])
 }
 
 // Every entry of the tables.
@@ -95,20 +99,21 @@ pub fn snapshot(
     i: &[[u8; 32]; 4],
     o: &[[u8; 32]; 4],
     m: &[[u8; 16]; 4],
-) -> [i32; 2240] {
-    let mut entries = [0; 2240];
+    on: &[u16; 4],
+) -> [i32; 2244] {
+    let mut entries = [0; 2244];
     let mut n = 0;
-    while n < 2240 {
-        entries[n] = entry(t, d, x, y, z, w, i, o, m, n);
+    while n < 2244 {
+        entries[n] = entry(t, d, x, y, z, w, i, o, m, on, n);
         n += 1;
     }
     entries
 }
 
 // Whether two snapshots are equal.
-fn is_same(a: &[i32; 2240], b: &[i32; 2240]) -> bool {
+fn is_same(a: &[i32; 2244], b: &[i32; 2244]) -> bool {
     let mut n = 0;
-    while n < 2240 {
+    while n < 2244 {
         if a[n] != b[n] {
             return false;
         }
@@ -118,8 +123,8 @@ fn is_same(a: &[i32; 2240], b: &[i32; 2240]) -> bool {
 }
 
 // Says of the tables so named whether every entry is 0.
-pub fn put_zero(name: &[u8], entries: &[i32; 2240]) {
-    let zero = [0; 2240];
+pub fn put_zero(name: &[u8], entries: &[i32; 2244]) {
+    let zero = [0; 2244];
     put(name);
     if is_same(entries, &zero) {
         put(b" zero");
@@ -128,7 +133,7 @@ pub fn put_zero(name: &[u8], entries: &[i32; 2240]) {
     }
 }
 
-fn put_same(before: &[i32; 2240], after: &[i32; 2240]) {
+fn put_same(before: &[i32; 2244], after: &[i32; 2244]) {
     if is_same(before, after) {
         put(b", tables unchanged");
     } else {
@@ -137,7 +142,7 @@ fn put_same(before: &[i32; 2240], after: &[i32; 2240]) {
 }
 
 // What a step left in the tables: those of a new box are zero, and others changed or not.
-pub fn put_tables(step: Step, before: &[i32; 2240], after: &[i32; 2240]) {
+pub fn put_tables(step: Step, before: &[i32; 2244], after: &[i32; 2244]) {
     match step {
         Step::Ranges => return,
         Step::Setup(_, _, _, _) => put_zero(b", tables", after),

@@ -14,6 +14,8 @@ pub enum Step {
     Other(u16, u16, u16, u16),
     // "input slot A port B byte C": an input call.
     Input(u16, u16, u8),
+    // "outputs on slot A": how many outputs are on.
+    Outputs(u16),
     // "N" and a slice: it is served with a reply area of 63 bytes.
     Narrow,
     // "R" and a row of the table of ranges: a call for each end of each range, and one beyond.
@@ -63,6 +65,9 @@ pub fn step_of(line: &[u8]) -> Step {
     }
     if is_same(name, b"input") {
         return Step::Input(number(line, 2), number(line, 4), byte(line, 6));
+    }
+    if is_same(name, b"outputs") {
+        return Step::Outputs(number(line, 3));
     }
     if is_kind(line, b'N') {
         return Step::Narrow;

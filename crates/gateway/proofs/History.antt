@@ -7,28 +7,34 @@ use native.Mathlib.Omega.{arith}
 use lib.Dec.{ltb, eqb}
 use lib.ListN.{length, getD, take}
 use Rattle.frame.proofs.Writing.{written}
-use Rattle.model.specs.Call.{Call, serve, input, Answer, noReply}
-use Rattle.model.specs.Box.{Box, Decision, setup, decide, perform, respond, after, answer, run}
+use Rattle.model.specs.Call.{Call, serve, input, outputsOn, Answer, noReply, theCount}
+use Rattle.model.specs.Box.{Box, Decision, setup, isFitted, decide, performTables, perform, respond, after, answer, run}
 use Rattle.model.specs.Addressed.{isFor, answersTo, armOf}
 use Rattle.model.specs.Demand3.{Isolated}
 use Rattle.model.proofs.Laws.{cond-has}
 use Rattle.model.proofs.Isolation.{demand3}
-use Rattle.gateway.specs.Entries.{box}
-use Rattle.gateway.specs.History.{Made, served, inputMade, callOf, seen, tablesAfter, Promised, History, last, seenBy, CodeIsolated}
+use Rattle.gateway.specs.Entries.{box, asCount}
+use Rattle.gateway.specs.History.{Made, served, inputMade, countMade, callOf, seen, tablesAfter, Promised, History, last, seenBy, CodeIsolated}
 
 -- ---- one call
 
-made-box : (b : Box) (m : Made) → Promised b m → box (b .stations) (tablesAfter m) ≡ after b (callOf m)
-unfolding after perform
+made-box : (b : Box) (m : Made) → Promised b m → box (b .stations) (tablesAfter b m) ≡ after b (callOf m)
+unfolding after decide perform
 made-box b (served slice before sent t later) p = ap (box (b .stations)) (p .tables-are)
 made-box b (inputMade k port byte n t) p = ap (box (b .stations)) (p .tables-are)
+made-box b (countMade k r) p = ap (box (b .stations)) (cond-has (λ d. b .tables ≡ performTables (b .tables) d) (isFitted (b .stations) k) refl refl)
 
 -- an input call gets its number alone
 input-none : (b : Box) (k port byte : ℕ) → answer b (input k port byte) ≡ noReply (answer b (input k port byte) .number) 0
 unfolding answer decide respond
 input-none b k port byte =
     let P : Decision → Type 0 = λ d. respond b d ≡ noReply (respond b d .number) 0 in
-    cond-has P (ltb 3 k) refl (cond-has P (eqb (getD (b .stations) k 0) 0) refl (cond-has P (ltb 31 port) refl refl))
+    cond-has P (isFitted (b .stations) k) (cond-has P (ltb 31 port) refl refl) refl
+
+-- what is told of outputs that are on
+count-told : (b : Box) (k : ℕ) → seen (countMade k (asCount (answer b (outputsOn k)))) ≡ answer b (outputsOn k)
+unfolding answer decide respond
+count-told b k = cond-has (λ d. seen (countMade k (asCount (respond b d))) ≡ respond b d) (isFitted (b .stations) k) refl refl
 
 made-answer : (b : Box) (m : Made) → Promised b m → seen m ≡ answer b (callOf m)
 made-answer b (served slice before sent t later) p =
@@ -38,6 +44,7 @@ made-answer b (served slice before sent t later) p =
     let bytes : take (sent .length) later ≡ a .reply = rw (end, w .area) (written before 0 (a .reply) (omega (arith, w .fits))) in
     rw (w .number, w .position) (ap (λ r. record { number = a .number; position = a .position; reply = r }) bytes)
 made-answer b (inputMade k port byte n t) p = rw (p .number-is) (sym (input-none b k port byte))
+made-answer b (countMade k r) p = rw (p (b .tables)) (count-told b k)
 
 -- ---- all of them
 
@@ -45,14 +52,14 @@ history-run : (ms : List Made) (b : Box) → History b ms → last b ms ≡ run 
 unfolding History last run
 history-run [] b h = refl
 history-run (m ∷ ms) b h =
-    history-run ms (box (b .stations) (tablesAfter m)) (h .1) ∙ ap (λ d. run d (map callOf ms)) (made-box b m (h .0))
+    history-run ms (box (b .stations) (tablesAfter b m)) (h .1) ∙ ap (λ d. run d (map callOf ms)) (made-box b m (h .0))
 
 history-answers : (k : ℕ) (ms : List Made) (b : Box) → History b ms → seenBy k (b .stations) ms ≡ answersTo k b (map callOf ms)
 unfolding History seenBy answersTo
 history-answers k [] b h = refl
 history-answers k (m ∷ ms) b h =
     ap₂ (λ x r. cond (isFor k (b .stations) (callOf m)) (x ∷ r) r) (made-answer b m (h .0))
-    (history-answers k ms (box (b .stations) (tablesAfter m)) (h .1) ∙ ap (λ d. answersTo k d (map callOf ms)) (made-box b m (h .0)))
+    (history-answers k ms (box (b .stations) (tablesAfter b m)) (h .1) ∙ ap (λ d. answersTo k d (map callOf ms)) (made-box b m (h .0)))
 
 pub code-isolated : CodeIsolated
 code-isolated want number st t ms s h k f =

@@ -2,11 +2,12 @@
 use Prim.Native.Nat.{ℕ}
 use mathlib.Core.Path.{_≡_}
 use mathlib.Core.List.{List}
-use lib.ListN.{length}
+use lib.ListN.{length, getD}
 use Rattle.harl.specs.declared.message.Sent.{Sent}
 use Rattle.harl.specs.Message.{Message, Wrote}
-use Rattle.tables.specs.Tables.{Tables}
-use Rattle.model.specs.Call.{serve, input, Answer}
+use Rattle.tables.specs.Tables.{Tables, withOn}
+use Rattle.gateway.specs.declared.count.Count.{Count}
+use Rattle.model.specs.Call.{serve, input, outputsOn, Answer}
 use Rattle.model.specs.Setup.{setupNumber}
 use Rattle.model.specs.Box.{Box, setup, after, answer}
 
@@ -33,3 +34,12 @@ written a = record { number = a .number; position = a .position; bytes = a .repl
 pub record Served (b : Box) (slice before : List ℕ) (sent : Sent) (t : Tables) (later : List ℕ) : Type 0 where
   pub answer-is : Wrote (written (answer b (serve slice (length before)))) before sent later
   pub tables-are : t ≡ after b (serve slice (length before)) .tables
+
+-- an answer as the number of outputs that are on; 0 where there is no reply
+abbrev pub asCount : Answer → Count
+asCount a = record { number = a .number; count = getD (a .reply) 0 0 }
+
+-- a call that asks for that number: it is given the stations and the numbers kept, and its answer is the same whatever the other
+-- tables hold
+abbrev pub Counted : List ℕ → List ℕ → ℕ → Count → Type 0
+Counted st on slot r = (t : Tables) → r ≡ asCount (answer (box st (withOn t on)) (outputsOn slot))

@@ -1,4 +1,5 @@
 // Input calls: a byte put into an input port, as the arm's wiring does.
+use crate::slot::is_fitted;
 use commands::request::Port;
 ghost use Rattle.tables.specs.Tables.{tables};
 ghost use Rattle.gateway.specs.Entries.{InputSet, box};
@@ -15,17 +16,15 @@ pub fn input(
     inputs: &mut [[u8; 32]; 4],
     outputs: &mut [[u8; 32]; 4],
     memory: &mut [[u8; 16]; 4],
+    on: &mut [u16; 4],
     stations: &[u8; 4],
     slot: usize,
     port: Port,
     byte: u8,
 ) -> u8
-    ensures { λ r. ⌜ InputSet (box (now (stations .entry)) (tables (now (timers .entry)) (now (registers .entry)) (now (x .entry)) (now (y .entry)) (now (z .entry)) (now (w .entry)) (now (inputs .entry)) (now (outputs .entry)) (now (memory .entry)))) slot (port .0) byte r (tables (now (timers .exit)) (now (registers .exit)) (now (x .exit)) (now (y .exit)) (now (z .exit)) (now (w .exit)) (now (inputs .exit)) (now (outputs .exit)) (now (memory .exit))) ⌝ }
+    ensures { λ r. ⌜ InputSet (box (now (stations .entry)) (tables (now (timers .entry)) (now (registers .entry)) (now (x .entry)) (now (y .entry)) (now (z .entry)) (now (w .entry)) (now (inputs .entry)) (now (outputs .entry)) (now (memory .entry)) (now (on .entry)))) slot (port .0) byte r (tables (now (timers .exit)) (now (registers .exit)) (now (x .exit)) (now (y .exit)) (now (z .exit)) (now (w .exit)) (now (inputs .exit)) (now (outputs .exit)) (now (memory .exit)) (now (on .exit))) ⌝ }
 {
-    if 3 < slot {
-        return 14;
-    }
-    if stations[slot] == 0 {
+    if !is_fitted(stations, slot) {
         return 14;
     }
     let p = port.0 as usize;

@@ -84,6 +84,7 @@ fn serve_body(
     inputs: &mut [[u8; 32]; 4],
     outputs: &mut [[u8; 32]; 4],
     memory: &mut [[u8; 16]; 4],
+    on: &mut [u16; 4],
     slot: usize,
     station: u8,
     slice: &[u8],
@@ -91,10 +92,10 @@ fn serve_body(
     reply: &mut [u8],
 ) -> Sent
     ghost { Tables }
-    requires { λ t. ⌜ tables (now timers) (now registers) (now x) (now y) (now z) (now w) (now inputs) (now outputs) (now memory) ≡ t ⌝ }
+    requires { λ t. ⌜ tables (now timers) (now registers) (now x) (now y) (now z) (now w) (now inputs) (now outputs) (now memory) (now on) ≡ t ⌝ }
     requires { λ t. ⌜ (slot < 4) × (64 ≤ length (now reply)) ⌝ }
     requires { λ t. ⌜ (readFrame (now slice) .number ≡ 0) × (now body ≡ readFrame (now slice) .body) ⌝ }
-    ensures { λ t r. ⌜ BodyServed slot station (now (slice .entry)) t (now (reply .entry)) r (tables (now (timers .exit)) (now (registers .exit)) (now (x .exit)) (now (y .exit)) (now (z .exit)) (now (w .exit)) (now (inputs .exit)) (now (outputs .exit)) (now (memory .exit))) (now (reply .exit)) ⌝ }
+    ensures { λ t r. ⌜ BodyServed slot station (now (slice .entry)) t (now (reply .entry)) r (tables (now (timers .exit)) (now (registers .exit)) (now (x .exit)) (now (y .exit)) (now (z .exit)) (now (w .exit)) (now (inputs .exit)) (now (outputs .exit)) (now (memory .exit)) (now (on .exit))) (now (reply .exit)) ⌝ }
 {
     let read = read_body(slice, body);
     let judged = read.judged;
@@ -110,6 +111,7 @@ fn serve_body(
                 inputs,
                 outputs,
                 memory,
+                on,
                 slot,
                 request,
             );
@@ -143,11 +145,12 @@ pub fn serve(
     inputs: &mut [[u8; 32]; 4],
     outputs: &mut [[u8; 32]; 4],
     memory: &mut [[u8; 16]; 4],
+    on: &mut [u16; 4],
     stations: &[u8; 4],
     slice: &[u8],
     reply: &mut [u8],
 ) -> Sent
-    ensures { λ r. ⌜ Served (box (now (stations .entry)) (tables (now (timers .entry)) (now (registers .entry)) (now (x .entry)) (now (y .entry)) (now (z .entry)) (now (w .entry)) (now (inputs .entry)) (now (outputs .entry)) (now (memory .entry)))) (now (slice .entry)) (now (reply .entry)) r (tables (now (timers .exit)) (now (registers .exit)) (now (x .exit)) (now (y .exit)) (now (z .exit)) (now (w .exit)) (now (inputs .exit)) (now (outputs .exit)) (now (memory .exit))) (now (reply .exit)) ⌝ }
+    ensures { λ r. ⌜ Served (box (now (stations .entry)) (tables (now (timers .entry)) (now (registers .entry)) (now (x .entry)) (now (y .entry)) (now (z .entry)) (now (w .entry)) (now (inputs .entry)) (now (outputs .entry)) (now (memory .entry)) (now (on .entry)))) (now (slice .entry)) (now (reply .entry)) r (tables (now (timers .exit)) (now (registers .exit)) (now (x .exit)) (now (y .exit)) (now (z .exit)) (now (w .exit)) (now (inputs .exit)) (now (outputs .exit)) (now (memory .exit)) (now (on .exit))) (now (reply .exit)) ⌝ }
 {
     if reply.len() < 64 {
         return refusal(1, 0);
@@ -171,6 +174,7 @@ pub fn serve(
             inputs,
             outputs,
             memory,
+            on,
             slot,
             station,
             slice,

@@ -63,7 +63,7 @@ fn judge_setup(want: [u16; 4]) -> u8
     0
 }
 
-// Sets every row, register, timer and port to zero.
+// Sets every row, register, timer and port to zero, and the number of outputs that are on.
 fn clear(
     timers: &mut [[u16; 16]; 4],
     registers: &mut [[u16; 64]; 4],
@@ -74,8 +74,9 @@ fn clear(
     inputs: &mut [[u8; 32]; 4],
     outputs: &mut [[u8; 32]; 4],
     memory: &mut [[u8; 16]; 4],
+    on: &mut [u16; 4],
 )
-    ensures { λ _. ⌜ tables (now (timers .exit)) (now (registers .exit)) (now (x .exit)) (now (y .exit)) (now (z .exit)) (now (w .exit)) (now (inputs .exit)) (now (outputs .exit)) (now (memory .exit)) ≡ zeros ⌝ }
+    ensures { λ _. ⌜ tables (now (timers .exit)) (now (registers .exit)) (now (x .exit)) (now (y .exit)) (now (z .exit)) (now (w .exit)) (now (inputs .exit)) (now (outputs .exit)) (now (memory .exit)) (now (on .exit)) ≡ zeros ⌝ }
 {
     *timers = [[0; 16]; 4];
     *registers = [[0; 64]; 4];
@@ -86,6 +87,7 @@ fn clear(
     *inputs = [[0; 32]; 4];
     *outputs = [[0; 32]; 4];
     *memory = [[0; 16]; 4];
+    *on = [0; 4];
 }
 
 // Sets up a new box, whatever the memory held: every table zero, and each slot with its station, or unfitted
@@ -100,12 +102,13 @@ pub fn setup(
     inputs: &mut [[u8; 32]; 4],
     outputs: &mut [[u8; 32]; 4],
     memory: &mut [[u8; 16]; 4],
+    on: &mut [u16; 4],
     stations: &mut [u8; 4],
     want: [u16; 4],
 ) -> u8
-    ensures { λ r. ⌜ SetUp want r (now (stations .exit)) (tables (now (timers .exit)) (now (registers .exit)) (now (x .exit)) (now (y .exit)) (now (z .exit)) (now (w .exit)) (now (inputs .exit)) (now (outputs .exit)) (now (memory .exit))) ⌝ }
+    ensures { λ r. ⌜ SetUp want r (now (stations .exit)) (tables (now (timers .exit)) (now (registers .exit)) (now (x .exit)) (now (y .exit)) (now (z .exit)) (now (w .exit)) (now (inputs .exit)) (now (outputs .exit)) (now (memory .exit)) (now (on .exit))) ⌝ }
 {
-    clear(timers, registers, x, y, z, w, inputs, outputs, memory);
+    clear(timers, registers, x, y, z, w, inputs, outputs, memory, on);
     let number = judge_setup(want);
     if number != 0 {
         *stations = [0; 4];

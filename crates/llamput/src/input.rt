@@ -15,12 +15,13 @@ pub extern "C" fn llamput_input(
     inputs: &mut [[u8; 32]; 4],
     outputs: &mut [[u8; 32]; 4],
     memory: &mut [[u8; 16]; 4],
+    on: &mut [u16; 4],
     stations: &[u8; 4],
     slot: usize,
     port: u16,
     byte: u8,
 ) -> u8
-    ensures { λ r. ⌜ InputSet (box (now (stations .entry)) (tables (now (timers .entry)) (now (registers .entry)) (now (x .entry)) (now (y .entry)) (now (z .entry)) (now (w .entry)) (now (inputs .entry)) (now (outputs .entry)) (now (memory .entry)))) slot port byte r (tables (now (timers .exit)) (now (registers .exit)) (now (x .exit)) (now (y .exit)) (now (z .exit)) (now (w .exit)) (now (inputs .exit)) (now (outputs .exit)) (now (memory .exit))) ⌝ }
+    ensures { λ r. ⌜ InputSet (box (now (stations .entry)) (tables (now (timers .entry)) (now (registers .entry)) (now (x .entry)) (now (y .entry)) (now (z .entry)) (now (w .entry)) (now (inputs .entry)) (now (outputs .entry)) (now (memory .entry)) (now (on .entry)))) slot port byte r (tables (now (timers .exit)) (now (registers .exit)) (now (x .exit)) (now (y .exit)) (now (z .exit)) (now (w .exit)) (now (inputs .exit)) (now (outputs .exit)) (now (memory .exit)) (now (on .exit))) ⌝ }
 {
     gateway::input::input(
         timers,
@@ -32,6 +33,7 @@ pub extern "C" fn llamput_input(
         inputs,
         outputs,
         memory,
+        on,
         stations,
         slot,
         Port(port),

@@ -14,10 +14,11 @@ pub extern "C" fn llamput_setup(
     inputs: &mut [[u8; 32]; 4],
     outputs: &mut [[u8; 32]; 4],
     memory: &mut [[u8; 16]; 4],
+    on: &mut [u16; 4],
     stations: &mut [u8; 4],
     want: &[u16; 4],
 ) -> u8
-    ensures { λ r. ⌜ SetUp (now (want .entry)) r (now (stations .exit)) (tables (now (timers .exit)) (now (registers .exit)) (now (x .exit)) (now (y .exit)) (now (z .exit)) (now (w .exit)) (now (inputs .exit)) (now (outputs .exit)) (now (memory .exit))) ⌝ }
+    ensures { λ r. ⌜ SetUp (now (want .entry)) r (now (stations .exit)) (tables (now (timers .exit)) (now (registers .exit)) (now (x .exit)) (now (y .exit)) (now (z .exit)) (now (w .exit)) (now (inputs .exit)) (now (outputs .exit)) (now (memory .exit)) (now (on .exit))) ⌝ }
 {
     gateway::setup::setup(
         timers,
@@ -29,6 +30,7 @@ pub extern "C" fn llamput_setup(
         inputs,
         outputs,
         memory,
+        on,
         stations,
         *want,
     )

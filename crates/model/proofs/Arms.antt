@@ -17,13 +17,14 @@ use Rattle.bodies.specs.declared.body.Judged.the-variants as judged
 use Rattle.bodies.specs.Body.{readBody}
 use Rattle.bodies.specs.Reply.{statusText, outcomeText}
 use Rattle.tables.specs.Tables.{loaded, stored}
-use Rattle.model.specs.Call.{Call, serve, input}
-use Rattle.model.specs.Box.{Box, at, Decision, unanswered, refused, accepted, inputSet, decideBody, perform, respond}
+use Rattle.model.specs.Call.{Call, serve, input, outputsOn, theCount}
+use Rattle.model.specs.Box.{Box, at, Decision, unanswered, refused, accepted, inputSet, countAsked, decideBody, perform, respond}
 use Rattle.model.specs.Lone.{holds, replaced, Step, answerBody, step}
 use Rattle.model.specs.Addressed.{eventOf, armOf}
 use Rattle.model.specs.Shaped.{Shaped}
 use Rattle.model.proofs.Laws.{row-other, row-same}
 use Rattle.model.proofs.Slots.{concerns, heard}
+use Rattle.model.proofs.Counts.{Tallied, counted}
 
 -- the box after a store
 abbrev storedIn : Box → ℕ → Store → Box
@@ -35,7 +36,10 @@ pub record Agrees (b : Box) (k : ℕ) (d : Decision) (r : Step) : Type 0 where
   pub arm : armOf k (perform b d) ≡ r .arm
   pub answer : respond b d ≡ r .answer
 
-module _ (b : Box) (k : ℕ) (h : Shaped (b .tables)) (l : k < 4) where
+module _ (b : Box) (k : ℕ) (y : Tallied (b .tables)) (l : k < 4) where
+  abbrev h : Shaped (b .tables)
+  h = y .shaped
+
   loaded-same : (q : Load) → loaded k q (b .tables) ≡ holds (armOf k b) q
   unfolding loaded holds
   loaded-same (load.Timer n) = refl
@@ -68,6 +72,7 @@ module _ (b : Box) (k : ℕ) (h : Shaped (b .tables)) (l : k < 4) where
   unfolding step perform respond
   same (serve slice room) = body-same slice (getD (b .stations) k 0) (readBody (readFrame slice .body))
   same (input j p v) = record { arm = search row-same; answer = refl }
+  same (outputsOn j) = record { arm = refl; answer = ap theCount (counted (b .tables) k l y .count) }
 
 -- ---- another slot's
 
@@ -89,3 +94,4 @@ module _ (b : Box) (k : ℕ) where
   other (accepted j s (request.Load l)) h = refl
   other (accepted j s (request.Store q)) h = stored-other j q (λ e. h (ap at (sym e)))
   other (inputSet j p v) h = let ne : k ≡ j → ⊥ = λ e. h (ap at (sym e)) in simp row-other
+  other (countAsked j) h = refl

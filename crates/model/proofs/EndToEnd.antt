@@ -20,13 +20,13 @@ use Rattle.model.specs.Call.{Call, serve}
 use Rattle.model.specs.Box.{Box, setup, run}
 use Rattle.model.specs.Lone.{Arm, holds, answerRequest, step}
 use Rattle.model.specs.Addressed.{Fitted, isFor, armOf}
-use Rattle.model.specs.Shaped.{Shaped}
 use Rattle.model.specs.Ranges.{InRange}
 use Rattle.model.specs.EndToEnd.{outcomeOf, armAfter, Exchanged, EndToEnd}
 use Rattle.data.proofs.Bounds.{one-in}
 use Rattle.model.proofs.Laws.{row-in, bit-in, written-frame, written-in, fitting-in, outcome-back}
 use Rattle.model.proofs.Slots.{Apart, setup-apart}
-use Rattle.model.proofs.Isolation.{after-same, run-stations, always-shaped}
+use Rattle.model.proofs.Counts.{Tallied}
+use Rattle.model.proofs.Isolation.{after-same, run-stations, always-tallied}
 use Rattle.model.proofs.Ranges.{always-in-range}
 
 -- ---- what the lone box does with a request
@@ -70,7 +70,7 @@ module _ (b : Box) (k : ℕ) (h : InRange (b .tables)) where
 
 -- on a box that has what setup and calls leave
 pub exchanged : (b : Box) (k s : ℕ) (r : Request) (area room : ℕ)
-    → getD (b .stations) k 0 ≡ s → Apart (b .stations) → Fitted k (b .stations) → Shaped (b .tables) → InRange (b .tables)
+    → getD (b .stations) k 0 ≡ s → Apart (b .stations) → Fitted k (b .stations) → Tallied (b .tables) → InRange (b .tables)
     → writeRequest area s r .number ≡ 0 → 64 ≤ room
     → Exchanged b k s r (serve (writeRequest area s r .bytes) room)
 unfolding isFor step
@@ -90,4 +90,4 @@ end-to-end want cs k r area room bytes f e l =
     let b : Box = run (setup want) cs in
     let st : b .stations ≡ setup want .stations = run-stations cs (setup want) in
     exchanged b k (getD (setup want .stations) k 0) r area room (rw st) (rw st (setup-apart want)) (rw st f)
-    (always-shaped want cs) (always-in-range want cs bytes) e l
+    (always-tallied want cs) (always-in-range want cs bytes) e l

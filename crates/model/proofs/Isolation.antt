@@ -6,15 +6,16 @@ use mathlib.Core.List.{List, [], _∷_}
 use lib.ListN.{getD, getD-replicate}
 use Rattle.tables.specs.Tables.{Tables, zeros}
 use Rattle.model.specs.Call.{Call}
-use Rattle.model.specs.Box.{Box, setup, Slot, nowhere, at, Decision, unanswered, refused, accepted, inputSet, decide, performTables, perform, respond, after, answer, run}
+use Rattle.model.specs.Box.{Box, setup, Slot, nowhere, at, Decision, unanswered, refused, accepted, inputSet, countAsked, decide, performTables, perform, respond, after, answer, run}
 use Rattle.model.specs.Lone.{Arm, zeroArm, Event, step, runLone, answersLone}
 use Rattle.model.specs.Addressed.{Fitted, isFor, eventOf, eventsFor, answersTo, armOf}
-use Rattle.model.specs.Shaped.{Shaped, AlwaysShaped}
+use Rattle.model.specs.Shaped.{AlwaysShaped}
+use Rattle.model.specs.Counts.{AlwaysCounted}
 use Rattle.model.specs.Demand3.{Isolated, Demand3}
 use Rattle.model.proofs.Laws.{false-true}
 use Rattle.model.proofs.Slots.{Apart, setup-apart, nowhere-at, concerns, concerned, decided}
 use Rattle.model.proofs.Arms.{other, same}
-use Rattle.model.proofs.Shaped.{after-shaped, setup-shaped}
+use Rattle.model.proofs.Counts.{Tallied, after-tallied, setup-tallied, counted}
 
 -- ---- one call
 
@@ -31,7 +32,7 @@ module _ (b : Box) (k : ℕ) (c : Call) where
   unfolding after
   after-unfitted z = other b k (decide (b .stations) c) (λ w. concerned (b .stations) k c w .fitted .1 z)
 
-  pub after-same : Apart (b .stations) → Fitted k (b .stations) → Shaped (b .tables) → isFor k (b .stations) c ≡ true
+  pub after-same : Apart (b .stations) → Fitted k (b .stations) → Tallied (b .tables) → isFor k (b .stations) c ≡ true
       → (armOf k (after b c) ≡ step (getD (b .stations) k 0) (armOf k b) (eventOf c) .arm)
       × (answer b c ≡ step (getD (b .stations) k 0) (armOf k b) (eventOf c) .answer)
   unfolding after answer
@@ -45,7 +46,7 @@ record Follows (b : Box) (k : ℕ) (cs : List Call) (own : ℕ) (a : Arm) (es : 
   tables : armOf k (run b cs) ≡ runLone own a es
   answers : answersTo k b cs ≡ answersLone own a es
 
-follows : (b : Box) (k : ℕ) (cs : List Call) → Apart (b .stations) → Fitted k (b .stations) → Shaped (b .tables)
+follows : (b : Box) (k : ℕ) (cs : List Call) → Apart (b .stations) → Fitted k (b .stations) → Tallied (b .tables)
     → Follows b k cs (getD (b .stations) k 0) (armOf k b) (eventsFor k (b .stations) cs)
 unfolding run runLone answersTo answersLone eventsFor
 follows b k [] g f h = record { tables = refl; answers = refl }
@@ -53,7 +54,7 @@ follows b k (c ∷ cs) g f h =
     let kept = after-stations b c in
     go (isFor k (b .stations) c) refl
     (subst (λ (s : List ℕ). Follows (after b c) k cs (getD s k 0) (armOf k (after b c)) (eventsFor k s cs)) kept
-    (follows (after b c) k cs (rw kept g) (rw kept f) (after-shaped b c h)))
+    (follows (after b c) k cs (rw kept g) (rw kept f) (after-tallied b c h)))
   where
     own : ℕ
     own = getD (b .stations) k 0
@@ -98,6 +99,7 @@ unconcerned t (unanswered n p) e = refl
 unconcerned t (refused k s n p q) e = refl
 unconcerned t (accepted k s r) e = nowhere-at (sym e)
 unconcerned t (inputSet k p v) e = nowhere-at (sym e)
+unconcerned t (countAsked k) e = refl
 
 no-reply : (b : Box) (d : Decision) → concerns d ≡ nowhere → respond b d .reply ≡ []
 unfolding respond
@@ -105,6 +107,7 @@ no-reply b (unanswered n p) e = refl
 no-reply b (refused k s n p q) e = nowhere-at (sym e)
 no-reply b (accepted k s r) e = nowhere-at (sym e)
 no-reply b (inputSet k p v) e = nowhere-at (sym e)
+no-reply b (countAsked k) e = nowhere-at (sym e)
 
 unaddressed : (b : Box) (c : Call) → ((k : ℕ) → Fitted k (b .stations) → isFor k (b .stations) c ≡ false)
     → (after b c .tables ≡ b .tables) × (answer b c .reply ≡ [])
@@ -124,7 +127,7 @@ setup-zero want k l = search getD-replicate
 
 isolated : (want : List ℕ) (cs : List Call) (k : ℕ) → Fitted k (setup want .stations) → Isolated (setup want) k cs
 isolated want cs k f =
-    let w = follows (setup want) k cs (setup-apart want) f (setup-shaped want) in
+    let w = follows (setup want) k cs (setup-apart want) f (setup-tallied want) in
     let e = setup-zero want k (f .0) in
     record { tables = rw (← e) (w .tables); answers = rw (← e) (w .answers) }
 
@@ -138,5 +141,11 @@ demand3 want cs =
       stations = e;
     }
 
+pub always-tallied : (want : List ℕ) (cs : List Call) → Tallied (run (setup want) cs .tables)
+always-tallied want cs = run-keeps (λ b. Tallied (b .tables)) after-tallied cs (setup want) (setup-tallied want)
+
 pub always-shaped : AlwaysShaped
-always-shaped want cs = run-keeps (λ b. Shaped (b .tables)) after-shaped cs (setup want) (setup-shaped want)
+always-shaped want cs = always-tallied want cs .shaped
+
+pub always-counted : AlwaysCounted
+always-counted want cs k l = counted (run (setup want) cs .tables) k l (always-tallied want cs)

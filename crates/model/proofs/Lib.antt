@@ -3,9 +3,10 @@ pub mod Slots
 pub mod Arms
 pub mod Shaped
 pub mod Setups
+pub mod Ranges
+pub mod Counts
 pub mod Isolation
 pub mod Place
-pub mod Ranges
 pub mod EndToEnd
 pub mod StoreLoad
 pub mod Runs

@@ -12,8 +12,8 @@ use Rattle.bodies.specs.Body.{readBody}
 use Rattle.harl.specs.Message.{RequestReading, noRequest, fromStation, readRequest}
 use Rattle.harl.specs.Place.{Told}
 use Rattle.harl.proofs.Place.{nothing-told, requests-told}
-use Rattle.model.specs.Box.{Box, Slot, nowhere, at, Decision, unanswered, decideBody, decideSlot, slotOf, decide, respond, answer}
-use Rattle.model.specs.Place.{ServedTold, InputsTold}
+use Rattle.model.specs.Box.{Box, Slot, nowhere, at, Decision, unanswered, countAsked, decideBody, decideSlot, isFitted, decideFitted, slotOf, decide, respond, answer}
+use Rattle.model.specs.Place.{ServedTold, InputsTold, CountsTold}
 use Rattle.model.proofs.Laws.{cond-has}
 
 -- the position of a decision
@@ -45,9 +45,18 @@ served-told b slice room =
     cond-has (At b slice) (ltb room 64) (nothing-told slice 1 refl)
     (frame-told b slice (eqb (readFrame slice .number) 0) (slotOf (b .stations) (readFrame slice .station)) (requests-told slice))
 
+-- a decision with no position
+abbrev Silent : Box → Decision → Type 0
+Silent b d = respond b d .position ≡ 0
+
+fitted-silent : (b : Box) (k : ℕ) (d : Decision) → Silent b d → Silent b (decideFitted (b .stations) k d)
+unfolding respond
+fitted-silent b k d h = cond-has (Silent b) (isFitted (b .stations) k) h refl
+
 pub inputs-told : InputsTold
 unfolding decide respond answer
-inputs-told b k port byte = cond-has Silent (ltb 3 k) refl (cond-has Silent (eqb (getD (b .stations) k 0) 0) refl (cond-has Silent (ltb 31 port) refl refl))
-  where
-    Silent : Decision → Type 0
-    Silent d = respond b d .position ≡ 0
+inputs-told b k port byte = fitted-silent b k _ (cond-has (Silent b) (ltb 31 port) refl refl)
+
+pub counts-told : CountsTold
+unfolding decide respond answer
+counts-told b k = fitted-silent b k (countAsked k) refl

@@ -1,11 +1,11 @@
 -- What is accepted is in range, so every table is in range after any list of calls.
 use Prim.Native.Nat.{ℕ, _-_, _/_, _%_}
 use mathlib.Core.Path.{_≡_, refl}
-use mathlib.Core.Bool.{true}
+use mathlib.Core.Bool.{Bool, true}
 use mathlib.Core.List.{List, [], _∷_}
 use native.Mathlib.Omega.{arith}
 use borrow.Author.Tests.{leb-true}
-use lib.Dec.{ltb, eqb}
+use lib.Dec.{ltb, leb, eqb}
 use lib.IntN.{ℤ, pos, natAbs}
 use lib.ListN.{getD, replicate}
 use Rattle.frame.specs.Frame.{readFrame}
@@ -23,11 +23,11 @@ use Rattle.bodies.specs.Body.{readBody}
 use Rattle.harl.specs.Message.{judgeRequest}
 use Rattle.data.proofs.Bounds.{in-size, and-left, and-right, zero-in, passed}
 use Rattle.harl.proofs.Accepted.{accepted-in-range}
-use Rattle.tables.specs.Bits.{withBit}
+use Rattle.ports.specs.Bits.{withBit}
 use Rattle.tables.specs.Tables.{Tables, StoreInRange, set2, stored, zeros}
-use Rattle.tables.proofs.Bits.{with-bit-byte}
-use Rattle.model.specs.Call.{Call, serve, input}
-use Rattle.model.specs.Box.{Box, setup, Slot, nowhere, at, slotOf, Decision, unanswered, refused, accepted, inputSet, decideBody, decideSlot, decide, performTables, perform, after, run}
+use Rattle.ports.proofs.Bits.{with-bit-byte}
+use Rattle.model.specs.Call.{Call, serve, input, outputsOn}
+use Rattle.model.specs.Box.{Box, setup, Slot, nowhere, at, slotOf, Decision, unanswered, refused, accepted, inputSet, countAsked, decideBody, decideSlot, isFitted, decideFitted, decide, performTables, perform, after, run}
 use Rattle.model.specs.Ranges.{InRange, bringsByte, bringBytes, AlwaysInRange}
 use Rattle.model.proofs.Laws.{cond-has, Every, every-set, every-equal, port-in, natural-in, row-out, data-in}
 
@@ -69,44 +69,48 @@ stored-in t k (store.MemoryPort p v) e h = search (set-natural, natural-in kind.
 
 -- ---- what is decided of a call
 
--- an accepted request is in range, and an input call brings a byte
-abbrev Sound : Decision → Type 0
-Sound (unanswered n p) = Unit
-Sound (refused k s n p q) = Unit
-Sound (accepted k s r) = judgeRequest r ≡ 0
-Sound (inputSet k p v) = inRange kind.Port (pos v) ≡ true
+-- an accepted request is in range; an input call brings a byte, where t says so
+abbrev pub Sound : Bool → Decision → Type 0
+Sound t (unanswered n p) = Unit
+Sound t (refused k s n p q) = Unit
+Sound t (accepted k s r) = judgeRequest r ≡ 0
+Sound t (inputSet k p v) = t ≡ true → inRange kind.Port (pos v) ≡ true
+Sound t (countAsked k) = Unit
 
-sound-slot : (slice : List ℕ) (s : ℕ) (body : List ℕ) (f : Slot) → Sound (decideSlot slice s body f)
-sound-slot slice s body nowhere = tt
-sound-slot slice s body (at k) = go (readBody body) refl
+sound-slot : (t : Bool) (slice : List ℕ) (s : ℕ) (body : List ℕ) (f : Slot) → Sound t (decideSlot slice s body f)
+sound-slot t slice s body nowhere = tt
+sound-slot t slice s body (at k) = go (readBody body) refl
   where
-    go : (j : Judged) → readBody body ≡ j → Sound (decideBody slice k s j)
+    go : (j : Judged) → readBody body ≡ j → Sound t (decideBody slice k s j)
     go (judged.Accepted r) e = accepted-in-range body r e
     go (judged.Refused n q) e = tt
 
-sound : (st : List ℕ) (c : Call) → bringsByte c ≡ true → Sound (decide st c)
+sound-fitted : (t : Bool) (st : List ℕ) (k : ℕ) (d : Decision) → Sound t d → Sound t (decideFitted st k d)
+sound-fitted t st k d h = cond-has (Sound t) (isFitted st k) h tt
+
+pub sound : (st : List ℕ) (c : Call) → Sound (bringsByte c) (decide st c)
 unfolding decide bringsByte
-sound st (serve slice room) e =
+sound st (serve slice room) =
     let o = readFrame slice in
-    cond-has Sound (ltb room 64) tt
-    (cond-has Sound (eqb (o .number) 0) (sound-slot slice (o .station) (o .body) (slotOf st (o .station))) tt)
-sound st (input k p v) e =
-    cond-has Sound (ltb 3 k) tt
-    (cond-has Sound (eqb (getD st k 0) 0) tt
-    (cond-has Sound (ltb 31 p) tt (port-in v (leb-true v 255 e))))
+    cond-has (Sound true) (ltb room 64) tt
+    (cond-has (Sound true) (eqb (o .number) 0) (sound-slot true slice (o .station) (o .body) (slotOf st (o .station))) tt)
+sound st (input k p v) =
+    sound-fitted (leb v 255) st k _ (cond-has (Sound (leb v 255)) (ltb 31 p) tt (λ e. port-in v (leb-true v 255 e)))
+sound st (outputsOn k) = sound-fitted true st k (countAsked k) tt
 
 -- ---- calls
 
-performed-in : (t : Tables) (d : Decision) → Sound d → InRange t → InRange (performTables t d)
+performed-in : (t : Tables) (d : Decision) → Sound true d → InRange t → InRange (performTables t d)
 performed-in t (unanswered n p) e h = h
 performed-in t (refused k s n p q) e h = h
 performed-in t (accepted k s (request.Load l)) e h = h
 performed-in t (accepted k s (request.Store q)) e h = stored-in t k q e h
-performed-in t (inputSet k p v) e h = search set-natural
+performed-in t (inputSet k p v) e h = let i = e refl in search set-natural
+performed-in t (countAsked k) e h = h
 
 pub after-in : (b : Box) (c : Call) → bringsByte c ≡ true → InRange (b .tables) → InRange (after b c .tables)
 unfolding after perform
-after-in b c e h = performed-in (b .tables) (decide (b .stations) c) (sound (b .stations) c e) h
+after-in b c e h = performed-in (b .tables) (decide (b .stations) c) (rw e at (sound (b .stations) c)) h
 
 run-in : (cs : List Call) (b : Box) → bringBytes cs ≡ true → InRange (b .tables) → InRange (run b cs .tables)
 unfolding run bringBytes

@@ -1,5 +1,6 @@
 -- The runs of specs/Runs.antt, by computation.
 use mathlib.Core.Path.{refl}
+use lib.Count.{onesIn, ones}
 use Rattle.text.specs.Scan.{until}
 use Rattle.text.specs.Whole.{digitsOnto, readWhole, digit, leading, shortest, padded}
 use Rattle.text.specs.Hundredths.{decimals, magnitude, readHundredths, magnitudeText, hundredthsText}
@@ -15,14 +16,14 @@ use Rattle.bodies.specs.Position.{bodyPosition}
 use Rattle.bodies.specs.Reply.{statusText, outcomeText}
 use Rattle.tables.specs.Tables.{loaded, stored, zeros}
 use Rattle.model.specs.Setup.{tooHigh, contains, repeats, setupNumber}
-use Rattle.model.specs.Box.{setup, scan, slotOf, decide, perform, respond, after, answer}
+use Rattle.model.specs.Box.{setup, scan, slotOf, isFitted, decide, perform, respond, after, answer}
 use Rattle.model.specs.Runs.{replayedTurns, Runs}
 
 pub runs-hold : Runs
-unfolding until digitsOnto readWhole digit leading shortest padded
+unfolding onesIn ones until digitsOnto readWhole digit leading shortest padded
     decimals magnitude readHundredths magnitudeText hundredthsText
     xorOnto lrcOf first more fields placedMore placed offending stationOf readInner readFrame framePosition opening closing frameOf
     same nameOf among commandOf inRange eachInRange allInRange judge readFields dataText readShape requestOrRefusal readBody bodyPosition statusText outcomeText
     loaded stored zeros
-    tooHigh contains repeats setupNumber setup scan slotOf decide perform respond after answer replayedTurns
+    tooHigh contains repeats setupNumber setup scan slotOf isFitted decide perform respond after answer replayedTurns
 runs-hold = refl

@@ -9,7 +9,7 @@ use Rattle.commands.specs.declared.request.Store.the-variants as store
 use Rattle.commands.specs.declared.request.Request.the-variants as request
 use Rattle.tables.specs.Tables.{Tables, set2, stored, zeros}
 use Rattle.model.specs.Call.{Call}
-use Rattle.model.specs.Box.{Box, Decision, unanswered, refused, accepted, inputSet, decide, performTables, perform, after, setup}
+use Rattle.model.specs.Box.{Box, Decision, unanswered, refused, accepted, inputSet, countAsked, decide, performTables, perform, after, setup}
 use Rattle.model.specs.Shaped.{Rows, Shaped}
 use Rattle.model.proofs.Laws.{row-other, row-same}
 
@@ -33,8 +33,8 @@ unfolding stored
 shaped-stored t k (store.Timer n v) h = search rows-set
 shaped-stored t k (store.Register n v) h = search rows-set
 shaped-stored t k (store.Row n r) h = search rows-set
-shaped-stored t k (store.Output g v) h = search rows-set
-shaped-stored t k (store.OutputPort p v) h = search rows-set
+shaped-stored t k (store.Output g v) h = search (rows-set, length-set)
+shaped-stored t k (store.OutputPort p v) h = search (rows-set, length-set)
 shaped-stored t k (store.MemoryBit g v) h = search rows-set
 shaped-stored t k (store.MemoryPort p v) h = search rows-set
 
@@ -44,6 +44,7 @@ shaped-performed t (refused k s n p q) h = h
 shaped-performed t (accepted k s (request.Load l)) h = h
 shaped-performed t (accepted k s (request.Store q)) h = shaped-stored t k q h
 shaped-performed t (inputSet k p v) h = search rows-set
+shaped-performed t (countAsked k) h = h
 
 pub after-shaped : (b : Box) (c : Call) → Shaped (b .tables) → Shaped (after b c .tables)
 unfolding after perform
@@ -51,4 +52,4 @@ after-shaped b c h = shaped-performed (b .tables) (decide (b .stations) c) h
 
 pub setup-shaped : (want : List ℕ) → Shaped (setup want .tables)
 unfolding setup zeros
-setup-shaped want = search rows-equal
+setup-shaped want = search (rows-equal, length-replicate)

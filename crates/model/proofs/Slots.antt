@@ -14,10 +14,11 @@ use Rattle.bodies.specs.declared.body.Judged.{Judged}
 use Rattle.bodies.specs.declared.body.Judged.the-variants as judged
 use Rattle.bodies.specs.Body.{readBody}
 use Rattle.data.proofs.Bounds.{and-left, and-right}
-use Rattle.model.specs.Call.{Call, serve, input}
+use Rattle.model.specs.Call.{Call, serve, input, outputsOn}
 use Rattle.model.specs.Setup.{setupNumber}
-use Rattle.model.specs.Box.{setup, Slot, nowhere, at, scan, slotOf, Decision, unanswered, refused, accepted, inputSet, decideBody, decideSlot, decideFrame, decide}
+use Rattle.model.specs.Box.{setup, Slot, nowhere, at, scan, slotOf, Decision, unanswered, refused, accepted, inputSet, countAsked, decideBody, decideSlot, decideFrame, isFitted, decideFitted, decide}
 use Rattle.model.specs.Addressed.{Fitted, isFor}
+use Rattle.model.proofs.Laws.{false-true}
 use Rattle.model.proofs.Setups.{setup-judged}
 
 -- ---- no nonzero station stands twice
@@ -85,6 +86,7 @@ concerns (unanswered n p) = nowhere
 concerns (refused k s n p q) = at k
 concerns (accepted k s r) = at k
 concerns (inputSet k p v) = at k
+concerns (countAsked k) = at k
 
 pub body-concerns : (slice : List ℕ) (k s : ℕ) (j : Judged) → concerns (decideBody slice k s j) ≡ at k
 body-concerns slice k s (judged.Accepted r) = refl
@@ -93,6 +95,14 @@ body-concerns slice k s (judged.Refused n q) = refl
 pub record For (k : ℕ) (st : List ℕ) (t : Bool) : Type 0 where
   pub fitted : Fitted k st
   pub addressed : t ≡ true
+
+pub fitted-is : (st : List ℕ) (k : ℕ) → isFitted st k ≡ true → Fitted k st
+unfolding isFitted
+fitted-is st k e = go (ltb 3 k) refl e
+  where
+    go : (t : Bool) → ltb 3 k ≡ t → cond t false (not (eqb (getD st k 0) 0)) ≡ true → Fitted k st
+    go true et h = false-true h
+    go false et h = let l = ltb-false 3 k et in (omega arith, eqb-false _ 0 (not-true (eqb (getD st k 0) 0) h))
 
 module _ (st : List ℕ) (k : ℕ) where
   frame-for : (slice : List ℕ) (o : Reading) → concerns (decideFrame slice st o) ≡ at k → For k st (eqb (o .number) 0 && eqb (o .station) (getD st k 0))
@@ -108,6 +118,20 @@ module _ (st : List ℕ) (k : ℕ) where
           let (f, w) = slot-at st (o .station) k (ef ∙ ap at q) in
           record { fitted = f; addressed = eq-eqb (o .station) _ (sym w) }
 
+  -- what concerns slot k, where a slot is tested first
+  fitted-concerns : (j : ℕ) (d : Decision) → concerns (decideFitted st j d) ≡ at k → (isFitted st j ≡ true) × (concerns d ≡ at k)
+  fitted-concerns j d e = go (isFitted st j) refl e
+    where
+      go : (t : Bool) → isFitted st j ≡ t → concerns (cond t d (unanswered 14 0)) ≡ at k → (isFitted st j ≡ true) × (concerns d ≡ at k)
+      go true et e′ = (et, e′)
+      go false et e′ = nowhere-at e′
+
+  -- a call that names slot k, which is fitted, is addressed to its arm, where x holds
+  slot-for : (j : ℕ) (x : Bool) → isFitted st j ≡ true → j ≡ k → x ≡ true → For k st (leb j 3 && (not (eqb (getD st j 0) 0) && x))
+  slot-for j x h q e =
+      let f = fitted-is st j h in
+      record { fitted = rw (← q) f; addressed = rw (le-leb j 3 (omega (arith, f .0)), ne-eqb _ 0 (f .1), e) }
+
   pub concerned : (c : Call) → concerns (decide st c) ≡ at k → For k st (isFor k st c)
   unfolding decide isFor
   concerned (serve slice room) e = go (ltb room 64) refl e
@@ -116,27 +140,28 @@ module _ (st : List ℕ) (k : ℕ) where
           → For k st (leb 64 room && (eqb (readFrame slice .number) 0 && eqb (readFrame slice .station) (getD st k 0)))
       go true et e′ = nowhere-at e′
       go false et e′ = rw (le-leb 64 room (ltb-false room 64 et)) (frame-for slice (readFrame slice) e′)
-  concerned (input j p v) e = go (ltb 3 j) refl (eqb (getD st j 0) 0) refl (ltb 31 p) refl e
+  concerned (input j p v) e = let (h, q) = fitted-concerns j _ e in go h (ltb 31 p) refl q
     where
-      go : (t₁ : Bool) → ltb 3 j ≡ t₁ → (t₂ : Bool) → eqb (getD st j 0) 0 ≡ t₂ → (t₃ : Bool) → ltb 31 p ≡ t₃
-          → concerns (cond t₁ (unanswered 14 0) (cond t₂ (unanswered 14 0) (cond t₃ (unanswered 14 0) (inputSet j p v)))) ≡ at k
+      go : isFitted st j ≡ true → (t : Bool) → ltb 31 p ≡ t → concerns (cond t (unanswered 14 0) (inputSet j p v)) ≡ at k
           → For k st (leb j 3 && (not (eqb (getD st j 0) 0) && (leb p 31 && eqb j k)))
-      go true e₁ t₂ e₂ t₃ e₃ e′ = nowhere-at e′
-      go false e₁ true e₂ t₃ e₃ e′ = nowhere-at e′
-      go false e₁ false e₂ true e₃ e′ = nowhere-at e′
-      go false e₁ false e₂ false e₃ e′ =
-          let q : j ≡ k = cc in
-          let l : j ≤ 3 = ltb-false 3 j e₁ in
-          record {
-            fitted = (omega arith, rw (← q) (eqb-false _ 0 e₂));
-            addressed = rw (le-leb j 3 l, e₂, le-leb p 31 (ltb-false 31 p e₃), eq-eqb j k q);
-          }
+      go h true et q = nowhere-at q
+      go h false et q = let w : j ≡ k = cc in slot-for j _ h w (rw (le-leb p 31 (ltb-false 31 p et)) (eq-eqb j k w))
+  concerned (outputsOn j) e = let (h, q) = fitted-concerns j _ e in let w : j ≡ k = cc in slot-for j _ h w (eq-eqb j k w)
 
 -- ---- what is decided of a call that is addressed to slot k's arm
 
 abbrev pub heard : ℕ → List ℕ → Call → Decision
 heard k st (serve slice room) = decideBody slice k (getD st k 0) (readBody (readFrame slice .body))
 heard k st (input j p v) = inputSet k p v
+heard k st (outputsOn j) = countAsked k
+
+-- the same the other way round
+fitted-decided : (st : List ℕ) (j : ℕ) (x : Bool) (d : Decision) → leb j 3 && (not (eqb (getD st j 0) 0) && x) ≡ true → (decideFitted st j d ≡ d) × (x ≡ true)
+unfolding isFitted
+fitted-decided st j x d e =
+    let n : Bool = not (eqb (getD st j 0) 0) in
+    let t = and-right (leb j 3) _ e in
+    (rw (le-ltb 3 j (leb-true j 3 (and-left (leb j 3) _ e)), not-true (eqb (getD st j 0) 0) (and-left n x t)), and-right n x t)
 
 pub decided : (st : List ℕ) (k : ℕ) (c : Call) → Apart st → Fitted k st → isFor k st c ≡ true → decide st c ≡ heard k st c
 unfolding decide isFor
@@ -150,12 +175,8 @@ decided st k (serve slice room) g f e =
       slot-own st k g f,
     )
 decided st k (input j p v) g f e =
-    let n : Bool = not (eqb (getD st j 0) 0) in
-    let t = and-right (leb j 3) _ e in
-    let u = and-right n _ t in
-    rw (
-      le-ltb 3 j (leb-true j 3 (and-left (leb j 3) _ e)),
-      not-true (eqb (getD st j 0) 0) (and-left n _ t),
-      le-ltb 31 p (leb-true p 31 (and-left (leb p 31) _ u)),
-      eqb-true j k (and-right (leb p 31) _ u),
-    )
+    let (w, u) = fitted-decided st j (leb p 31 && eqb j k) (cond (ltb 31 p) (unanswered 14 0) (inputSet j p v)) e in
+    w ∙ rw (le-ltb 31 p (leb-true p 31 (and-left (leb p 31) _ u)), eqb-true j k (and-right (leb p 31) _ u))
+decided st k (outputsOn j) g f e =
+    let (w, u) = fitted-decided st j (eqb j k) (countAsked j) e in
+    w ∙ rw (eqb-true j k u)

@@ -28,9 +28,9 @@ use Rattle.data.specs.Ranges.{limitsOf, allInRange, judge}
 use Rattle.bodies.specs.Body.{readBody}
 use Rattle.bodies.specs.Reply.{dataOf}
 use Rattle.harl.specs.Message.{ruleFor, judgeRequest, judgeAsked, readRequest, writeRequest, noOutcome, readReply}
-use Rattle.tables.specs.Bits.{bit, withBit}
+use Rattle.ports.specs.Bits.{bit, withBit}
 use Rattle.tables.specs.Tables.{PerField, eachField, eachWith, EachField, asRow, withInputs, set2, LoadInRange, StoreInRange}
-use Rattle.tables.proofs.Bits.{bit-same, bit-other}
+use Rattle.ports.proofs.Bits.{bit-same, bit-other}
 use Rattle.tables.proofs.Ranges.{readable}
 use Rattle.data.proofs.Bounds.{in-size, in-nat, all-x, zero-in, passed, judged}
 use Rattle.harl.proofs.Accepted.{accepted-in-range}
@@ -40,15 +40,14 @@ use Rattle.model.specs.Setup.{setupNumber}
 use Rattle.model.specs.Box.{Box, setup, at, decide, after, run}
 use Rattle.model.specs.Lone.{Arm, holds, replaced, step}
 use Rattle.model.specs.Addressed.{Fitted, isFor, armOf}
-use Rattle.model.specs.Shaped.{Shaped}
 use Rattle.model.specs.Ranges.{InRange, bringsByte}
 use Rattle.model.specs.StoreLoad.{stationAt, told, replies, Write, sn, wired, callTo, Accepts, itemOf, givenBy, portOf, View, entire, bitAt, viewOf, Other, StoreLoad}
 use Rattle.model.proofs.Laws.{framed}
 use Rattle.model.proofs.Slots.{Apart, setup-apart, concerns, body-concerns, heard, decided}
 use Rattle.model.proofs.Arms.{other}
-use Rattle.model.proofs.Shaped.{after-shaped}
 use Rattle.model.proofs.Setups.{accepted-small}
-use Rattle.model.proofs.Isolation.{after-stations, after-same, run-stations, always-shaped}
+use Rattle.model.proofs.Counts.{Tallied, after-tallied}
+use Rattle.model.proofs.Isolation.{after-stations, after-same, run-stations, always-tallied}
 use Rattle.model.proofs.Ranges.{after-in, always-in-range}
 use Rattle.model.proofs.EndToEnd.{exchanged}
 
@@ -468,13 +467,13 @@ shown a (load.MemoryPort p) i = tt
 record Ready (b : Box) : Type 0 where
   apart : Apart (b .stations)
   small : (k : ℕ) → Fitted k (b .stations) → stationAt b k ≤ 99
-  shaped : Shaped (b .tables)
+  tallied : Tallied (b .tables)
   range : InRange (b .tables)
 
 -- the arms of such a box
 sized : (b : Box) → Ready b → (k : ℕ) → k < 4 → Sized (armOf k b)
 sized b r k l =
-    let t = r .shaped in
+    let t = r .tallied .shaped in
     let c : EachField (λ t. length t ≡ 100) (armOf k b .rows) = let r = t .rows in record { x = r .x .row k l; y = r .y .row k l; z = r .z .row k l; w = r .w .row k l } in
     record {
       columns = c;
@@ -502,7 +501,7 @@ module _ (b : Box) (r : Ready b) (k : ℕ) (f : Fitted k (b .stations)) where
   -- the answer to an LN that can be written is what the arm holds
   told-asked : (l : Load) → judgeAsked (stationAt b k) (request.Load l) ≡ 0 → told b k l ≡ replies (holds (armOf k b) l)
   unfolding told writeRequest
-  told-asked l e = exchanged b k (stationAt b k) (request.Load l) 64 64 refl (r .apart) f (r .shaped) (r .range) e (omega arith) .reply
+  told-asked l e = exchanged b k (stationAt b k) (request.Load l) 64 64 refl (r .apart) f (r .tallied) (r .range) e (omega arith) .reply
 
   told-held : (l : Load) → LoadInRange l → told b k l ≡ replies (holds (armOf k b) l)
   told-held l e = told-asked l (writable (request.Load l) e)
@@ -524,8 +523,8 @@ module _ (b : Box) (r : Ready b) (k : ℕ) (f : Fitted k (b .stations)) where
   unfolding step readRequest
   arm-own (sn slice room q) h =
       let o = framed slice (readFrame slice) (stationAt b k) (request.Store q) (h .1) in
-      rw (o .body) at (after-same b k (serve slice room) (r .apart) f (r .shaped) (addressed (sn slice room q) h) .0)
-  arm-own (wired p v) h = after-same b k (input k p v) (r .apart) f (r .shaped) (addressed (wired p v) h) .0
+      rw (o .body) at (after-same b k (serve slice room) (r .apart) f (r .tallied) (addressed (sn slice room q) h) .0)
+  arm-own (wired p v) h = after-same b k (input k p v) (r .apart) f (r .tallied) (addressed (wired p v) h) .0
 
   -- and no other
   concerns-own : (w : Write) → concerns (heard k (b .stations) (callTo k w)) ≡ at k
@@ -556,7 +555,7 @@ module _ (b : Box) (r : Ready b) (k : ℕ) (f : Fitted k (b .stations)) where
       record {
         apart = rw e (r .apart);
         small = rw e (r .small);
-        shaped = after-shaped b (callTo k w) (r .shaped);
+        tallied = after-tallied b (callTo k w) (r .tallied);
         range = after-in b (callTo k w) (brings w h) (r .range);
       }
 
@@ -632,7 +631,7 @@ store-load want cs k bytes f =
     record {
       apart = rw st (setup-apart want);
       small = rw st (small-station want);
-      shaped = always-shaped want cs;
+      tallied = always-tallied want cs;
       range = always-in-range want cs bytes;
     } in
     let g : Fitted k (b .stations) = rw st f in

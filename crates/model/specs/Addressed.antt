@@ -7,25 +7,27 @@ use lib.ListN.{getD}
 use lib.Dec.{leb, eqb}
 use Rattle.frame.specs.Frame.{readFrame}
 use Rattle.tables.specs.Tables.{eachField}
-use Rattle.model.specs.Call.{Call, serve, input, Answer}
+use Rattle.model.specs.Call.{Call, serve, input, outputsOn, Answer}
 use Rattle.model.specs.Box.{Box, after, answer}
-use Rattle.model.specs.Lone.{Arm, Event, frameIn, portIn}
+use Rattle.model.specs.Lone.{Arm, Event, frameIn, portIn, countIn}
 
 -- slot k has an arm
 abbrev pub Fitted : ℕ → List ℕ → Type 0
 Fitted k st = (k < 4) × (getD st k 0 ≡ 0 → ⊥)
 
--- a serving call: checks 1 to 7 pass and the station is the arm's, so that 8 passes too; an input call: it
--- is not refused and its slot is the arm's
+-- a serving call: checks 1 to 7 pass and the station is the arm's, so that 8 passes too; an input call, and one that asks
+-- for the outputs that are on: it is not refused and its slot is the arm's
 unfoldable pub isFor : ℕ → List ℕ → Call → Bool
 isFor k st (serve slice room) =
     leb 64 room && (eqb (readFrame slice .number) 0 && eqb (readFrame slice .station) (getD st k 0))
 isFor k st (input j port byte) = leb j 3 && (not (eqb (getD st j 0) 0) && (leb port 31 && eqb j k))
+isFor k st (outputsOn j) = leb j 3 && (not (eqb (getD st j 0) 0) && eqb j k)
 
 -- what the lone box is fed of a call
 abbrev pub eventOf : Call → Event
 eventOf (serve slice room) = frameIn slice
 eventOf (input j port byte) = portIn port byte
+eventOf (outputsOn j) = countIn
 
 -- the calls addressed to the arm of slot k, in order
 unfoldable pub eventsFor : ℕ → List ℕ → List Call → List Event
@@ -38,7 +40,7 @@ answersTo k b [] = []
 answersTo k b (c ∷ cs) =
     cond (isFor k (b .stations) c) (answer b c ∷ answersTo k (after b c) cs) (answersTo k (after b c) cs)
 
--- the tables of slot k's arm
+-- the tables of slot k's arm, without the number that is kept of it
 abbrev pub armOf : ℕ → Box → Arm
 armOf k b =
     record {
@@ -48,4 +50,5 @@ armOf k b =
       inputs = getD (b .tables .inputs) k [];
       outputs = getD (b .tables .outputs) k [];
       memory = getD (b .tables .memory) k [];
+      on = tt;
     }

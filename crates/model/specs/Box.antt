@@ -2,7 +2,7 @@
 -- what a call does. `decide` makes every test, from the call and the stations alone; `perform` and `respond`
 -- go by its cases and make none.
 use Prim.Native.Nat.{ℕ, zero, suc}
-use mathlib.Core.Bool.{Bool, cond}
+use mathlib.Core.Bool.{Bool, false, cond, not}
 use mathlib.Core.List.{List, [], _∷_}
 use lib.ListN.{getD, replicate}
 use lib.Dec.{ltb, eqb}
@@ -14,7 +14,7 @@ use Rattle.bodies.specs.Body.{readBody}
 use Rattle.bodies.specs.Position.{bodyPosition}
 use Rattle.bodies.specs.Reply.{performedText, refusalText}
 use Rattle.tables.specs.Tables.{Tables, withInputs, set2, performed, outcomeAt, zeros}
-use Rattle.model.specs.Call.{Call, serve, input, Answer, noReply}
+use Rattle.model.specs.Call.{Call, serve, input, outputsOn, Answer, noReply, theCount}
 use Rattle.model.specs.Setup.{setupNumber}
 
 -- a station of 0 leaves its slot unfitted
@@ -44,12 +44,13 @@ unfoldable pub slotOf : List ℕ → ℕ → Slot
 slotOf st s = cond (eqb s 0) nowhere (scan st s 4 0)
 
 -- unanswered: refused with no reply, number, position. refused: slot, station, number, position, whether the name is an
--- SN's. accepted: slot, station, request. inputSet: slot, input port, byte
+-- SN's. accepted: slot, station, request. inputSet: slot, input port, byte. countAsked: slot
 pub data Decision : Type 0 where
   unanswered : ℕ → ℕ → Decision
   refused : ℕ → ℕ → ℕ → ℕ → Bool → Decision
   accepted : ℕ → ℕ → Request → Decision
   inputSet : ℕ → ℕ → ℕ → Decision
+  countAsked : ℕ → Decision
 
 -- 9 to 12 of a slice
 abbrev pub decideBody : List ℕ → ℕ → ℕ → Judged → Decision
@@ -67,13 +68,19 @@ decideFrame slice st o =
     cond (eqb (o .number) 0) (decideSlot slice (o .station) (o .body) (slotOf st (o .station)))
     (unanswered (o .number) (framePosition slice (o .number)))
 
+-- k is one of the four slots, and has an arm
+unfoldable pub isFitted : List ℕ → ℕ → Bool
+isFitted st k = cond (ltb 3 k) false (not (eqb (getD st k 0) 0))
+
+-- 14 INPUT of a slot that is not; else d
+abbrev pub decideFitted : List ℕ → ℕ → Decision → Decision
+decideFitted st k d = cond (isFitted st k) d (unanswered 14 0)
+
 -- 1 ROOM, then those; 14 INPUT
 unfoldable pub decide : List ℕ → Call → Decision
 decide st (serve slice room) = cond (ltb room 64) (unanswered 1 0) (decideFrame slice st (readFrame slice))
-decide st (input k port byte) =
-    cond (ltb 3 k) (unanswered 14 0)
-    (cond (eqb (getD st k 0) 0) (unanswered 14 0)
-    (cond (ltb 31 port) (unanswered 14 0) (inputSet k port byte)))
+decide st (input k port byte) = decideFitted st k (cond (ltb 31 port) (unanswered 14 0) (inputSet k port byte))
+decide st (outputsOn k) = decideFitted st k (countAsked k)
 
 -- ---- what is done and answered
 
@@ -82,6 +89,7 @@ performTables t (unanswered n p) = t
 performTables t (refused k s n p store) = t
 performTables t (accepted k s r) = performed k r t
 performTables t (inputSet k p v) = withInputs t (set2 (t .inputs) k p v)
+performTables t (countAsked k) = t
 
 unfoldable pub perform : Box → Decision → Box
 perform b d = record { stations = b .stations; tables = performTables (b .tables) d }
@@ -91,6 +99,7 @@ respond b (unanswered n p) = noReply n p
 respond b (refused k s n p store) = record { number = n; position = p; reply = frameOf s (refusalText n store) }
 respond b (accepted k s r) = record { number = 0; position = 0; reply = frameOf s (performedText (outcomeAt k r (b .tables))) }
 respond b (inputSet k p v) = noReply 0 0
+respond b (countAsked k) = theCount (getD (b .tables .on) k 0)
 
 -- the box that a call leaves, and its answer
 unfoldable pub after : Box → Call → Box

@@ -5,6 +5,7 @@ pub mod Lone
 pub mod Addressed
 pub mod Shaped
 pub mod Ranges
+pub mod Counts
 pub mod Demand3
 pub mod Place
 pub mod EndToEnd

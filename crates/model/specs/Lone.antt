@@ -1,6 +1,7 @@
 -- The lone box (document 01, "Demand 3's list and the lone box"): one arm with its own tables. It is fed the
 -- calls addressed to that arm. It shares with the box only the reading of frames and requests, where they are
--- wrong, the forming of replies, what a bit of a byte is, and the form of a record with a table for each kind.
+-- wrong, the forming of replies, what a bit of a byte is, how ones are counted, and the form of a record with a table for
+-- each kind.
 use Prim.Native.Nat.{ℕ, _-_, _/_, _%_}
 use mathlib.Core.List.{List, [], _∷_}
 use lib.ListN.{getD, set, replicate}
@@ -19,25 +20,27 @@ use Rattle.bodies.specs.declared.body.Judged.the-variants as judged
 use Rattle.bodies.specs.Body.{readBody}
 use Rattle.bodies.specs.Position.{bodyPosition}
 use Rattle.bodies.specs.Reply.{contentOf, contentText, refusalText, doneText}
-use Rattle.tables.specs.Bits.{bit, withBit}
+use Rattle.ports.specs.Bits.{bit, withBit}
+use Rattle.ports.specs.On.{signalsOn}
 use Rattle.tables.specs.Tables.{PerKind, eachField, eachWith, asRow, tables, withTimers, withRegisters, withRows, withInputs, withOutputs, withMemory}
-use Rattle.model.specs.Call.{Answer, noReply}
+use Rattle.model.specs.Call.{Answer, noReply, theCount}
 
--- 16 timers, 64 registers, 100 rows, 32 input, 32 output and 16 memory ports
+-- 16 timers, 64 registers, 100 rows, 32 input, 32 output and 16 memory ports; it keeps no number of outputs that are on
 abbrev pub Arm : Type 0
-Arm = PerKind (List ℕ) (List ℤ)
+Arm = PerKind (List ℕ) (List ℤ) Unit
 
 -- all zero at first
 unfoldable pub zeroArm : Arm
 zeroArm =
     tables (replicate 16 0) (replicate 64 0)
     (replicate 100 (pos 0)) (replicate 100 (pos 0)) (replicate 100 (pos 0)) (replicate 100 (pos 0))
-    (replicate 32 0) (replicate 32 0) (replicate 16 0)
+    (replicate 32 0) (replicate 32 0) (replicate 16 0) tt
 
--- a serving call's slice; an input call's port and byte
+-- a serving call's slice; an input call's port and byte; the question how many outputs are on
 pub data Event : Type 0 where
   frameIn : List ℕ → Event
   portIn : ℕ → ℕ → Event
+  countIn : Event
 
 -- a signal is bit n % 8 of port n / 8
 abbrev pub signalIn : List ℕ → ℕ → ℕ
@@ -89,6 +92,7 @@ answerBody slice own a (judged.Refused n store) =
 unfoldable pub step : ℕ → Arm → Event → Step
 step own a (frameIn slice) = answerBody slice own a (readBody (readFrame slice .body))
 step own a (portIn port byte) = record { arm = withInputs a (set (a .inputs) port byte); answer = noReply 0 0 }
+step own a countIn = record { arm = a; answer = theCount (signalsOn 32 (a .outputs)) }
 
 unfoldable pub runLone : ℕ → Arm → List Event → Arm
 runLone own a [] = a

@@ -8,7 +8,7 @@ use lib.IntN.{pos}
 use Rattle.commands.specs.declared.command.Kind.the-variants as kind
 use Rattle.data.specs.Ranges.{inRange}
 use Rattle.tables.specs.Tables.{Tables, EachField, at2, atz2}
-use Rattle.model.specs.Call.{Call, serve, input}
+use Rattle.model.specs.Call.{Call, serve, input, outputsOn}
 use Rattle.model.specs.Box.{setup, run}
 
 -- every value is in its kind's range; a place outside a table reads as 0, which every range has
@@ -24,6 +24,7 @@ pub record InRange (t : Tables) : Type 0 where
 unfoldable pub bringsByte : Call → Bool
 bringsByte (serve slice room) = true
 bringsByte (input k port byte) = leb byte 255
+bringsByte (outputsOn k) = true
 
 -- each input call of a list
 unfoldable pub bringBytes : List Call → Bool

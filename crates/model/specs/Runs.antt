@@ -3,7 +3,7 @@ use Prim.Native.Nat.{ℕ}
 use mathlib.Core.Path.{_≡_}
 use mathlib.Core.List.{List, [], _∷_, _++_, map}
 use Rattle.frame.specs.Frame.{frameOf}
-use Rattle.model.specs.Call.{Call, serve, input, Answer, noReply}
+use Rattle.model.specs.Call.{Call, serve, input, outputsOn, Answer, noReply, theCount}
 use Rattle.model.specs.Setup.{setupNumber}
 use Rattle.model.specs.Box.{Box, setup, after, answer}
 
@@ -38,6 +38,10 @@ gives c n = record { call = c; answer = noReply n 0 }
 -- a call that has no reply, the number given, and where the slice is wrong
 abbrev pub points : Call → ℕ → ℕ → Turn
 points c n p = record { call = c; answer = noReply n p }
+
+-- a slot of which it is asked how many outputs are on, and the number told
+abbrev pub tells : ℕ → ℕ → Turn
+tells k n = record { call = outputsOn k; answer = theCount n }
 
 -- LND 5
 abbrev pub lnd : List ℕ
@@ -134,6 +138,43 @@ portTurns =
     asks 4 (76 ∷ 78 ∷ 66 ∷ 68 ∷ 32 ∷ 50 ∷ []) 0 0 (49 ∷ []) ∷
     []
 
+-- how many outputs are on (document 02, E7), after the turns above: slot 3 has arm 4, of which memory bits, inputs, other arms and
+-- refused requests do not move the number
+abbrev pub countTurns : List Turn
+countTurns =
+    tells 3 1 ∷
+    -- SNOD 0 255: 00
+    asks 4 (83 ∷ 78 ∷ 79 ∷ 68 ∷ 32 ∷ 48 ∷ 32 ∷ 50 ∷ 53 ∷ 53 ∷ []) 0 0 (48 ∷ 48 ∷ []) ∷
+    tells 3 9 ∷
+    -- the same byte again
+    asks 4 (83 ∷ 78 ∷ 79 ∷ 68 ∷ 32 ∷ 48 ∷ 32 ∷ 50 ∷ 53 ∷ 53 ∷ []) 0 0 (48 ∷ 48 ∷ []) ∷
+    tells 3 9 ∷
+    -- SNOB 7 0: 00
+    asks 4 (83 ∷ 78 ∷ 79 ∷ 66 ∷ 32 ∷ 55 ∷ 32 ∷ 48 ∷ []) 0 0 (48 ∷ 48 ∷ []) ∷
+    tells 3 8 ∷
+    -- the same signal off twice
+    asks 4 (83 ∷ 78 ∷ 79 ∷ 66 ∷ 32 ∷ 55 ∷ 32 ∷ 48 ∷ []) 0 0 (48 ∷ 48 ∷ []) ∷
+    tells 3 8 ∷
+    -- SNOD 31 0: 00
+    asks 4 (83 ∷ 78 ∷ 79 ∷ 68 ∷ 32 ∷ 51 ∷ 49 ∷ 32 ∷ 48 ∷ []) 0 0 (48 ∷ 48 ∷ []) ∷
+    tells 3 7 ∷
+    -- SNBD 2 255: 00
+    asks 4 (83 ∷ 78 ∷ 66 ∷ 68 ∷ 32 ∷ 50 ∷ 32 ∷ 50 ∷ 53 ∷ 53 ∷ []) 0 0 (48 ∷ 48 ∷ []) ∷
+    -- SNBB 272 0: 00
+    asks 4 (83 ∷ 78 ∷ 66 ∷ 66 ∷ 32 ∷ 50 ∷ 55 ∷ 50 ∷ 32 ∷ 48 ∷ []) 0 0 (48 ∷ 48 ∷ []) ∷
+    gives (input 3 0 255) 0 ∷
+    -- SNOD 0 3: 00
+    asks 2 (83 ∷ 78 ∷ 79 ∷ 68 ∷ 32 ∷ 48 ∷ 32 ∷ 51 ∷ []) 0 0 (48 ∷ 48 ∷ []) ∷
+    -- SNOD 32 255: 11, SNOD 0 256: 12, SNOB 0 2: 12
+    asks 4 (83 ∷ 78 ∷ 79 ∷ 68 ∷ 32 ∷ 51 ∷ 50 ∷ 32 ∷ 50 ∷ 53 ∷ 53 ∷ []) 11 8 (49 ∷ 49 ∷ []) ∷
+    asks 4 (83 ∷ 78 ∷ 79 ∷ 68 ∷ 32 ∷ 48 ∷ 32 ∷ 50 ∷ 53 ∷ 54 ∷ []) 12 10 (49 ∷ 50 ∷ []) ∷
+    asks 4 (83 ∷ 78 ∷ 79 ∷ 66 ∷ 32 ∷ 48 ∷ 32 ∷ 50 ∷ []) 12 10 (49 ∷ 50 ∷ []) ∷
+    tells 3 7 ∷
+    tells 1 2 ∷
+    tells 0 0 ∷
+    gives (outputsOn 4) 14 ∷
+    []
+
 -- no reply: station 9 is absent, which is judged after its LRC; a room of 63 bytes; no slot 4; no port 32
 abbrev pub unansweredTurns : List Turn
 unansweredTurns =
@@ -156,6 +197,8 @@ inputTurns =
     asks 99 (76 ∷ 78 ∷ 73 ∷ 68 ∷ 32 ∷ 48 ∷ []) 0 0 (48 ∷ []) ∷
     gives (input 1 0 1) 14 ∷
     gives (input 4 0 1) 14 ∷
+    tells 3 0 ∷
+    gives (outputsOn 1) 14 ∷
     []
 
 -- an empty name, which ETX ends: E09 there
@@ -165,13 +208,13 @@ emptyTurns = asks 99 [] 9 4 (69 ∷ 48 ∷ 57 ∷ []) ∷ []
 abbrev pub runs : List Run
 runs =
     -- four arms
-    record { want = 1 ∷ 2 ∷ 3 ∷ 4 ∷ []; number = 0; turns = registerTurns ++ (rowTurns ++ (portTurns ++ (pointedTurns ++ unansweredTurns))) } ∷
+    record { want = 1 ∷ 2 ∷ 3 ∷ 4 ∷ []; number = 0; turns = registerTurns ++ (rowTurns ++ (portTurns ++ (countTurns ++ (pointedTurns ++ unansweredTurns)))) } ∷
     -- the highest station and the lowest, in the first slot and the last
     record { want = 99 ∷ 0 ∷ 0 ∷ 1 ∷ []; number = 0; turns = inputTurns ++ emptyTurns } ∷
     -- one arm, in slot 1
     record { want = 0 ∷ 7 ∷ 0 ∷ 0 ∷ []; number = 0; turns = gives (input 0 0 1) 14 ∷ gives (input 1 0 1) 0 ∷ [] } ∷
     -- station 1 twice, so that no arm is fitted
-    record { want = 1 ∷ 2 ∷ 1 ∷ 0 ∷ []; number = 13; turns = gives (serve (frameOf 1 lnd) 64) 8 ∷ gives (input 0 0 1) 14 ∷ [] } ∷
+    record { want = 1 ∷ 2 ∷ 1 ∷ 0 ∷ []; number = 13; turns = gives (serve (frameOf 1 lnd) 64) 8 ∷ gives (input 0 0 1) 14 ∷ gives (outputsOn 0) 14 ∷ [] } ∷
     -- station 7 in the first slot and the last
     record { want = 7 ∷ 0 ∷ 1 ∷ 7 ∷ []; number = 13; turns = [] } ∷
     -- a station above 99, in the first slot and behind another

@@ -19,6 +19,7 @@ pub record Shaped (t : Tables) : Type 0 where
   pub inputs : Rows 32 (t .inputs)
   pub outputs : Rows 32 (t .outputs)
   pub memory : Rows 16 (t .memory)
+  pub on : length (t .on) ≡ 4
 
 -- after any setup and any list of calls the tables have that shape (proved in proofs/Isolation.antt)
 abbrev pub AlwaysShaped : Type 0

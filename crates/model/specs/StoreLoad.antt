@@ -16,7 +16,7 @@ use Rattle.bodies.specs.declared.reply.Data.{Data}
 use Rattle.bodies.specs.declared.reply.Data.the-variants as held
 use Rattle.bodies.specs.declared.reply.Outcome.the-variants as outcome
 use Rattle.harl.specs.Message.{theRequest, readRequest, writeRequest, ReplyReading, theOutcome, readReply}
-use Rattle.tables.specs.Bits.{bit}
+use Rattle.ports.specs.Bits.{bit}
 use Rattle.tables.specs.Tables.{readBy, LoadInRange, StoreInRange}
 use Rattle.model.specs.Call.{Call, serve, input}
 use Rattle.model.specs.Box.{Box, setup, after, answer, run}

@@ -24,7 +24,7 @@ use Rattle.bodies.specs.declared.body.Judged.{Judged}
 use Rattle.bodies.specs.declared.body.Judged.the-variants.{Refused}
 use Rattle.bodies.specs.Body.{readBody}
 use Rattle.harl.specs.Message.{writeRequest, writeReply}
-use Rattle.tables.specs.Place.{placeOf}
+use Rattle.ports.specs.Place.{placeOf}
 use Rattle.model.specs.Call.{serve}
 use Rattle.model.specs.Box.{setup, answer}
 

@@ -22,6 +22,7 @@ fn answer_line(
     inputs: &mut [[u8; 32]; 4],
     outputs: &mut [[u8; 32]; 4],
     memory: &mut [[u8; 16]; 4],
+    on: &mut [u16; 4],
     stations: &[u8; 4],
     line: &[u8],
 ) {
@@ -41,6 +42,7 @@ fn answer_line(
         inputs,
         outputs,
         memory,
+        on,
         stations,
         front(&slice[..], n),
         &mut reply[..],
@@ -65,6 +67,7 @@ fn answer_bytes(
     inputs: &mut [[u8; 32]; 4],
     outputs: &mut [[u8; 32]; 4],
     memory: &mut [[u8; 16]; 4],
+    on: &mut [u16; 4],
     stations: &[u8; 4],
     input: &[u8],
     held: &mut [u8; 513],
@@ -83,6 +86,7 @@ fn answer_bytes(
                 inputs,
                 outputs,
                 memory,
+                on,
                 stations,
                 front(held, n),
             );
@@ -107,6 +111,7 @@ fn main() {
     let mut inputs = [[0u8; 32]; 4];
     let mut outputs = [[0u8; 32]; 4];
     let mut memory = [[0u8; 16]; 4];
+    let mut on = [0u16; 4];
     let mut stations = [0u8; 4];
     setup(
         &mut timers,
@@ -118,6 +123,7 @@ fn main() {
         &mut inputs,
         &mut outputs,
         &mut memory,
+        &mut on,
         &mut stations,
         [1, 2, 3, 4],
     );
@@ -139,6 +145,7 @@ fn main() {
             &mut inputs,
             &mut outputs,
             &mut memory,
+            &mut on,
             &stations,
             front(&input[..], got),
             &mut held,
@@ -156,6 +163,7 @@ fn main() {
             &mut inputs,
             &mut outputs,
             &mut memory,
+            &mut on,
             &stations,
             b"\n",
             &mut held,

@@ -41,6 +41,7 @@ fn end_line(
     inputs: &mut [[u8; 32]; 4],
     outputs: &mut [[u8; 32]; 4],
     memory: &mut [[u8; 16]; 4],
+    on: &mut [u16; 4],
     stations: &[u8; 4],
     held: &[u8],
     out: &mut [u8],
@@ -48,7 +49,7 @@ fn end_line(
 ) -> Progress
     requires { ⌜ Within (now held) (now out) start ⌝ }
     requires { ⌜ start .waiting + 132 ≤ 65536 ⌝ }
-    ensures { λ r. ⌜ cellOf (now (stations .entry)) (tables (now (timers .exit)) (now (registers .exit)) (now (x .exit)) (now (y .exit)) (now (z .exit)) (now (w .exit)) (now (inputs .exit)) (now (outputs .exit)) (now (memory .exit))) (now (held .exit)) (now (out .exit)) r ≡ ended (cellOf (now (stations .entry)) (tables (now (timers .entry)) (now (registers .entry)) (now (x .entry)) (now (y .entry)) (now (z .entry)) (now (w .entry)) (now (inputs .entry)) (now (outputs .entry)) (now (memory .entry))) (now (held .entry)) (now (out .entry)) start) ⌝ }
+    ensures { λ r. ⌜ cellOf (now (stations .entry)) (tables (now (timers .exit)) (now (registers .exit)) (now (x .exit)) (now (y .exit)) (now (z .exit)) (now (w .exit)) (now (inputs .exit)) (now (outputs .exit)) (now (memory .exit)) (now (on .exit))) (now (held .exit)) (now (out .exit)) r ≡ ended (cellOf (now (stations .entry)) (tables (now (timers .entry)) (now (registers .entry)) (now (x .entry)) (now (y .entry)) (now (z .entry)) (now (w .entry)) (now (inputs .entry)) (now (outputs .entry)) (now (memory .entry)) (now (on .entry))) (now (held .entry)) (now (out .entry)) start) ⌝ }
     ensures { λ r. ⌜ Within (now (held .exit)) (now (out .exit)) r ⌝ }
 {
     let n = start.held;
@@ -63,6 +64,7 @@ fn end_line(
         inputs,
         outputs,
         memory,
+        on,
         stations,
         front(held, n),
         out,
@@ -85,6 +87,7 @@ fn take_line(
     inputs: &mut [[u8; 32]; 4],
     outputs: &mut [[u8; 32]; 4],
     memory: &mut [[u8; 16]; 4],
+    on: &mut [u16; 4],
     stations: &[u8; 4],
     input: &[u8],
     held: &mut [u8],
@@ -93,7 +96,7 @@ fn take_line(
 ) -> Part
     requires { ⌜ Within (now held) (now out) start ⌝ }
     requires { ⌜ start .waiting + 132 ≤ 65536 ⌝ }
-    ensures { λ r. ⌜ Took (cellOf (now (stations .entry)) (tables (now (timers .entry)) (now (registers .entry)) (now (x .entry)) (now (y .entry)) (now (z .entry)) (now (w .entry)) (now (inputs .entry)) (now (outputs .entry)) (now (memory .entry))) (now (held .entry)) (now (out .entry)) start) (now (input .entry)) (r .taken) (cellOf (now (stations .entry)) (tables (now (timers .exit)) (now (registers .exit)) (now (x .exit)) (now (y .exit)) (now (z .exit)) (now (w .exit)) (now (inputs .exit)) (now (outputs .exit)) (now (memory .exit))) (now (held .exit)) (now (out .exit)) (r .state)) ⌝ }
+    ensures { λ r. ⌜ Took (cellOf (now (stations .entry)) (tables (now (timers .entry)) (now (registers .entry)) (now (x .entry)) (now (y .entry)) (now (z .entry)) (now (w .entry)) (now (inputs .entry)) (now (outputs .entry)) (now (memory .entry)) (now (on .entry))) (now (held .entry)) (now (out .entry)) start) (now (input .entry)) (r .taken) (cellOf (now (stations .entry)) (tables (now (timers .exit)) (now (registers .exit)) (now (x .exit)) (now (y .exit)) (now (z .exit)) (now (w .exit)) (now (inputs .exit)) (now (outputs .exit)) (now (memory .exit)) (now (on .exit))) (now (held .exit)) (now (out .exit)) (r .state)) ⌝ }
     ensures { λ r. ⌜ Within (now (held .exit)) (now (out .exit)) (r .state) ⌝ }
     ensures { λ r. ⌜ (0 < length (now (input .entry)) → 0 < r .taken) ⌝ }
 {
@@ -119,6 +122,7 @@ fn take_line(
         inputs,
         outputs,
         memory,
+        on,
         stations,
         held,
         out,
@@ -141,6 +145,7 @@ pub fn take_block(
     inputs: &mut [[u8; 32]; 4],
     outputs: &mut [[u8; 32]; 4],
     memory: &mut [[u8; 16]; 4],
+    on: &mut [u16; 4],
     stations: &[u8; 4],
     input: &[u8],
     held: &mut [u8],
@@ -148,7 +153,7 @@ pub fn take_block(
     start: Progress,
 ) -> Part
     requires { ⌜ Within (now held) (now out) start ⌝ }
-    ensures { λ r. ⌜ Took (cellOf (now (stations .entry)) (tables (now (timers .entry)) (now (registers .entry)) (now (x .entry)) (now (y .entry)) (now (z .entry)) (now (w .entry)) (now (inputs .entry)) (now (outputs .entry)) (now (memory .entry))) (now (held .entry)) (now (out .entry)) start) (now (input .entry)) (r .taken) (cellOf (now (stations .entry)) (tables (now (timers .exit)) (now (registers .exit)) (now (x .exit)) (now (y .exit)) (now (z .exit)) (now (w .exit)) (now (inputs .exit)) (now (outputs .exit)) (now (memory .exit))) (now (held .exit)) (now (out .exit)) (r .state)) ⌝ }
+    ensures { λ r. ⌜ Took (cellOf (now (stations .entry)) (tables (now (timers .entry)) (now (registers .entry)) (now (x .entry)) (now (y .entry)) (now (z .entry)) (now (w .entry)) (now (inputs .entry)) (now (outputs .entry)) (now (memory .entry)) (now (on .entry))) (now (held .entry)) (now (out .entry)) start) (now (input .entry)) (r .taken) (cellOf (now (stations .entry)) (tables (now (timers .exit)) (now (registers .exit)) (now (x .exit)) (now (y .exit)) (now (z .exit)) (now (w .exit)) (now (inputs .exit)) (now (outputs .exit)) (now (memory .exit)) (now (on .exit))) (now (held .exit)) (now (out .exit)) (r .state)) ⌝ }
     ensures { λ r. ⌜ (r .taken ≡ length (now (input .entry))) ⊎ (65404 < r .state .waiting) ⌝ }
     ensures { λ r. ⌜ Within (now (held .exit)) (now (out .exit)) (r .state) ⌝ }
 {
@@ -165,6 +170,7 @@ pub fn take_block(
             inputs,
             outputs,
             memory,
+            on,
             stations,
             &input[i..],
             held,
@@ -191,6 +197,7 @@ pub fn answer_last(
     inputs: &mut [[u8; 32]; 4],
     outputs: &mut [[u8; 32]; 4],
     memory: &mut [[u8; 16]; 4],
+    on: &mut [u16; 4],
     stations: &[u8; 4],
     held: &[u8],
     out: &mut [u8],
@@ -198,7 +205,7 @@ pub fn answer_last(
 ) -> Progress
     requires { ⌜ Within (now held) (now out) start ⌝ }
     requires { ⌜ start .waiting + 132 ≤ 65536 ⌝ }
-    ensures { λ r. ⌜ cellOf (now (stations .entry)) (tables (now (timers .exit)) (now (registers .exit)) (now (x .exit)) (now (y .exit)) (now (z .exit)) (now (w .exit)) (now (inputs .exit)) (now (outputs .exit)) (now (memory .exit))) (now (held .exit)) (now (out .exit)) r ≡ finished (cellOf (now (stations .entry)) (tables (now (timers .entry)) (now (registers .entry)) (now (x .entry)) (now (y .entry)) (now (z .entry)) (now (w .entry)) (now (inputs .entry)) (now (outputs .entry)) (now (memory .entry))) (now (held .entry)) (now (out .entry)) start) ⌝ }
+    ensures { λ r. ⌜ cellOf (now (stations .entry)) (tables (now (timers .exit)) (now (registers .exit)) (now (x .exit)) (now (y .exit)) (now (z .exit)) (now (w .exit)) (now (inputs .exit)) (now (outputs .exit)) (now (memory .exit)) (now (on .exit))) (now (held .exit)) (now (out .exit)) r ≡ finished (cellOf (now (stations .entry)) (tables (now (timers .entry)) (now (registers .entry)) (now (x .entry)) (now (y .entry)) (now (z .entry)) (now (w .entry)) (now (inputs .entry)) (now (outputs .entry)) (now (memory .entry)) (now (on .entry))) (now (held .entry)) (now (out .entry)) start) ⌝ }
     ensures { λ r. ⌜ Within (now (held .exit)) (now (out .exit)) r ⌝ }
 {
     if start.held == 0 {
@@ -214,6 +221,7 @@ pub fn answer_last(
         inputs,
         outputs,
         memory,
+        on,
         stations,
         held,
         out,

@@ -16,8 +16,9 @@ use Rattle.commands.specs.declared.request.Request.the-variants as request
 use Rattle.bodies.specs.declared.reply.Outcome.{Outcome}
 use Rattle.bodies.specs.declared.reply.Outcome.the-variants as outcome
 use Rattle.harl.specs.Message.{judgeRequest}
-use Rattle.tables.specs.Bits.{bit, withBit}
-use Rattle.tables.specs.Place.{placeOf}
+use Rattle.ports.specs.Bits.{bit, withBit}
+use Rattle.ports.specs.On.{moved}
+use Rattle.ports.specs.Place.{placeOf}
 
 -- something of each field of a row
 pub record PerField (A : Type 0) : Type 0 where
@@ -48,44 +49,48 @@ pub record EachField {A : Type 0} (P : A → Type 0) (c : PerField A) : Type 0 w
 abbrev pub asRow : PerField ℤ → Row
 asRow c = record { x = c .x; y = c .y; z = c .z; w = c .w }
 
--- something of each kind of item: N for whole numbers, Z for offsets
-pub record PerKind (N Z : Type 0) : Type 0 where
+-- something of each kind of item: N for whole numbers, Z for offsets; and C of the number of outputs that are on
+pub record PerKind (N Z C : Type 0) : Type 0 where
   pub timers : N
   pub registers : N
   pub rows : PerField Z
   pub inputs : N
   pub outputs : N
   pub memory : N
+  pub on : C
 
-abbrev pub perKind : {N Z : Type 0} → N → N → PerField Z → N → N → N → PerKind N Z
-perKind t r c i o m = record { timers = t; registers = r; rows = c; inputs = i; outputs = o; memory = m }
+abbrev pub perKind : {N Z C : Type 0} → N → N → PerField Z → N → N → N → C → PerKind N Z C
+perKind t r c i o m n = record { timers = t; registers = r; rows = c; inputs = i; outputs = o; memory = m; on = n }
 
 -- in the order in which the tables are lent
-abbrev pub tables : {N Z : Type 0} → N → N → Z → Z → Z → Z → N → N → N → PerKind N Z
-tables t r x y z w i o m = perKind t r (columns x y z w) i o m
+abbrev pub tables : {N Z C : Type 0} → N → N → Z → Z → Z → Z → N → N → N → C → PerKind N Z C
+tables t r x y z w i o m n = perKind t r (columns x y z w) i o m n
 
 -- one of them replaced
-abbrev pub withTimers : {N Z : Type 0} → PerKind N Z → N → PerKind N Z
-withTimers t l = perKind l (t .registers) (t .rows) (t .inputs) (t .outputs) (t .memory)
+abbrev pub withTimers : {N Z C : Type 0} → PerKind N Z C → N → PerKind N Z C
+withTimers t l = perKind l (t .registers) (t .rows) (t .inputs) (t .outputs) (t .memory) (t .on)
 
-abbrev pub withRegisters : {N Z : Type 0} → PerKind N Z → N → PerKind N Z
-withRegisters t l = perKind (t .timers) l (t .rows) (t .inputs) (t .outputs) (t .memory)
+abbrev pub withRegisters : {N Z C : Type 0} → PerKind N Z C → N → PerKind N Z C
+withRegisters t l = perKind (t .timers) l (t .rows) (t .inputs) (t .outputs) (t .memory) (t .on)
 
-abbrev pub withRows : {N Z : Type 0} → PerKind N Z → PerField Z → PerKind N Z
-withRows t l = perKind (t .timers) (t .registers) l (t .inputs) (t .outputs) (t .memory)
+abbrev pub withRows : {N Z C : Type 0} → PerKind N Z C → PerField Z → PerKind N Z C
+withRows t l = perKind (t .timers) (t .registers) l (t .inputs) (t .outputs) (t .memory) (t .on)
 
-abbrev pub withInputs : {N Z : Type 0} → PerKind N Z → N → PerKind N Z
-withInputs t l = perKind (t .timers) (t .registers) (t .rows) l (t .outputs) (t .memory)
+abbrev pub withInputs : {N Z C : Type 0} → PerKind N Z C → N → PerKind N Z C
+withInputs t l = perKind (t .timers) (t .registers) (t .rows) l (t .outputs) (t .memory) (t .on)
 
-abbrev pub withOutputs : {N Z : Type 0} → PerKind N Z → N → PerKind N Z
-withOutputs t l = perKind (t .timers) (t .registers) (t .rows) (t .inputs) l (t .memory)
+abbrev pub withOutputs : {N Z C : Type 0} → PerKind N Z C → N → PerKind N Z C
+withOutputs t l = perKind (t .timers) (t .registers) (t .rows) (t .inputs) l (t .memory) (t .on)
 
-abbrev pub withMemory : {N Z : Type 0} → PerKind N Z → N → PerKind N Z
-withMemory t l = perKind (t .timers) (t .registers) (t .rows) (t .inputs) (t .outputs) l
+abbrev pub withMemory : {N Z C : Type 0} → PerKind N Z C → N → PerKind N Z C
+withMemory t l = perKind (t .timers) (t .registers) (t .rows) (t .inputs) (t .outputs) l (t .on)
 
--- one table for each kind: a list of rows, one for each slot
+abbrev pub withOn : {N Z C : Type 0} → PerKind N Z C → C → PerKind N Z C
+withOn t n = perKind (t .timers) (t .registers) (t .rows) (t .inputs) (t .outputs) (t .memory) n
+
+-- one table for each kind: a list of rows, one for each slot; and the number kept for each slot
 abbrev pub Tables : Type 0
-Tables = PerKind (List (List ℕ)) (List (List ℤ))
+Tables = PerKind (List (List ℕ)) (List (List ℤ)) (List ℕ)
 
 -- what slot s holds under n
 abbrev pub at2 : List (List ℕ) → ℕ → ℕ → ℕ
@@ -106,9 +111,14 @@ set2 t s n v = set t s (set (getD t s []) n v)
 abbrev pub signal2 : ℕ → List (List ℕ) → ℕ → ℕ → ℕ
 signal2 first t s n = bit (at2 t s (placeOf first n .port)) (placeOf first n .bit)
 
--- the table with v for that signal
-abbrev pub setSignal2 : ℕ → List (List ℕ) → ℕ → ℕ → ℕ → List (List ℕ)
-setSignal2 first t s n v = set2 t s (placeOf first n .port) (withBit (at2 t s (placeOf first n .port)) (placeOf first n .bit) v)
+-- the byte of its port with v for that signal
+abbrev pub signalByte : ℕ → List (List ℕ) → ℕ → ℕ → ℕ → ℕ
+signalByte first t s n v = withBit (at2 t s (placeOf first n .port)) (placeOf first n .bit) v
+
+-- a write of an output port: v in port p of slot s, and the number kept for s changed by the difference
+abbrev pub setOutput : ℕ → ℕ → ℕ → Tables → Tables
+setOutput s p v t =
+    withOn (withOutputs t (set2 (t .outputs) s p v)) (set (t .on) s (moved (getD (t .on) s 0) (at2 (t .outputs) s p) v))
 
 -- what an LN answers: what is held under its number
 unfoldable pub loaded : ℕ → Load → Tables → Data
@@ -122,14 +132,14 @@ loaded s (load.OutputPort p) t = held.Port (pos (at2 (t .outputs) s (p .0)))
 loaded s (load.MemoryBit g) t = held.Signal (pos (signal2 256 (t .memory) s (g .0)))
 loaded s (load.MemoryPort p) t = held.Port (pos (at2 (t .memory) s (p .0)))
 
--- what an SN leaves: its data under its number, all else as it was
+-- what an SN leaves: its data under its number, all else as it was but the number of outputs that are on
 unfoldable pub stored : ℕ → Store → Tables → Tables
 stored s (store.Timer n v) t = withTimers t (set2 (t .timers) s n (natAbs v))
 stored s (store.Register n v) t = withRegisters t (set2 (t .registers) s n (natAbs v))
 stored s (store.Row n r) t = withRows t (eachWith (λ c v. set2 c s n v) (t .rows) r)
-stored s (store.Output g v) t = withOutputs t (setSignal2 0 (t .outputs) s (g .0) (natAbs v))
-stored s (store.OutputPort p v) t = withOutputs t (set2 (t .outputs) s (p .0) (natAbs v))
-stored s (store.MemoryBit g v) t = withMemory t (setSignal2 256 (t .memory) s (g .0) (natAbs v))
+stored s (store.Output g v) t = setOutput s (placeOf 0 (g .0) .port) (signalByte 0 (t .outputs) s (g .0) (natAbs v)) t
+stored s (store.OutputPort p v) t = setOutput s (p .0) (natAbs v) t
+stored s (store.MemoryBit g v) t = withMemory t (set2 (t .memory) s (placeOf 256 (g .0) .port) (signalByte 256 (t .memory) s (g .0) (natAbs v)))
 stored s (store.MemoryPort p v) t = withMemory t (set2 (t .memory) s (p .0) (natAbs v))
 
 -- the item that an SN stores, as the LN that reads it
@@ -142,13 +152,13 @@ readBy (store.OutputPort p v) = load.OutputPort p
 readBy (store.MemoryBit g v) = load.MemoryBit g
 readBy (store.MemoryPort p v) = load.MemoryPort p
 
--- every row, register, timer and port at zero
+-- every row, register, timer and port at zero, and no output on
 unfoldable pub zeros : Tables
 zeros =
     tables (replicate 4 (replicate 16 0)) (replicate 4 (replicate 64 0))
     (replicate 4 (replicate 100 (pos 0))) (replicate 4 (replicate 100 (pos 0)))
     (replicate 4 (replicate 100 (pos 0))) (replicate 4 (replicate 100 (pos 0)))
-    (replicate 4 (replicate 32 0)) (replicate 4 (replicate 32 0)) (replicate 4 (replicate 16 0))
+    (replicate 4 (replicate 32 0)) (replicate 4 (replicate 32 0)) (replicate 4 (replicate 16 0)) (replicate 4 0)
 
 -- ---- one request on slot s
 
@@ -158,6 +168,10 @@ LoadInRange l = judgeRequest (request.Load l) ≡ 0
 
 abbrev pub StoreInRange : Store → Type 0
 StoreInRange q = judgeRequest (request.Store q) ≡ 0
+
+-- r is what an LN answers, whatever number of outputs is kept
+abbrev pub Loaded : ℕ → Load → (List ℕ → Tables) → Data → Type 0
+Loaded s l t r = (on : List ℕ) → r ≡ loaded s l (t on)
 
 -- an LN changes nothing
 abbrev pub performed : ℕ → Request → Tables → Tables

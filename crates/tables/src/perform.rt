@@ -1,18 +1,20 @@
 // One typed request on one arm. The tables come first, always in the same order. A load takes them as they
 // are; a store replaces what stands under its number, and nothing else. What tables of different width share
 // takes the slot's part of a table, as a slice.
-use crate::place::memory_place;
-use crate::place::signal_place;
-use crate::ports::load_port;
-use crate::ports::load_signal;
-use crate::ports::store_port;
-use crate::ports::store_signal;
 use bodies::reply::Data;
 use bodies::reply::Outcome;
 use commands::request::Load;
 use commands::request::Request;
 use commands::request::Row;
 use commands::request::Store;
+use ports::access::load_port;
+use ports::access::load_signal;
+use ports::access::store_bit;
+use ports::access::store_output;
+use ports::access::store_output_port;
+use ports::access::store_port;
+use ports::place::memory_place;
+use ports::place::signal_place;
 use text::hundredths::unsigned_abs;
 ghost use mathlib.Core.Path.{_≡_};
 ghost use Prim.Native.Nat.{_<_};
@@ -20,7 +22,7 @@ ghost use lib.ListN.{length, getD, set};
 ghost use lib.IntN.{natAbs, pos};
 ghost use Rattle.bodies.specs.declared.reply.Data.the-variants as held;
 ghost use Rattle.harl.specs.Message.{judgeRequest};
-ghost use Rattle.tables.specs.Tables.{Tables, columns, rowAt, tables, atz2, set2, loaded, stored, LoadInRange, StoreInRange, Performed};
+ghost use Rattle.tables.specs.Tables.{Tables, columns, rowAt, tables, atz2, set2, stored, LoadInRange, StoreInRange, Loaded, Performed};
 
 // The value of a timer or a register.
 fn load_word(words: &[u16], n: u16) -> i32
@@ -58,7 +60,7 @@ fn load_row(
     })
 }
 
-// What slot's arm holds under the number of a load.
+// What slot's arm holds under the number of a load, whatever the number of outputs that is kept.
 fn run_load(
     timers: &[[u16; 16]; 4],
     registers: &[[u16; 64]; 4],
@@ -73,7 +75,7 @@ fn run_load(
     load: Load,
 ) -> Data
     requires { ⌜ (slot < 4) × LoadInRange load ⌝ }
-    ensures { λ r. ⌜ r ≡ loaded slot load (tables (now (timers .entry)) (now (registers .entry)) (now (x .entry)) (now (y .entry)) (now (z .entry)) (now (w .entry)) (now (inputs .entry)) (now (outputs .entry)) (now (memory .entry))) ⌝ }
+    ensures { λ r. ⌜ Loaded slot load (tables (now (timers .entry)) (now (registers .entry)) (now (x .entry)) (now (y .entry)) (now (z .entry)) (now (w .entry)) (now (inputs .entry)) (now (outputs .entry)) (now (memory .entry))) r ⌝ }
 {
     match load {
         Load::Timer(n) => Data::Timer(load_word(&timers[slot][..], n)),
@@ -137,21 +139,26 @@ fn run_store(
     inputs: &mut [[u8; 32]; 4],
     outputs: &mut [[u8; 32]; 4],
     memory: &mut [[u8; 16]; 4],
+    on: &mut [u16; 4],
     slot: usize,
     store: Store,
 )
     ghost { Tables }
-    requires { λ t. ⌜ tables (now timers) (now registers) (now x) (now y) (now z) (now w) (now inputs) (now outputs) (now memory) ≡ t ⌝ }
+    requires { λ t. ⌜ tables (now timers) (now registers) (now x) (now y) (now z) (now w) (now inputs) (now outputs) (now memory) (now on) ≡ t ⌝ }
     requires { λ t. ⌜ (slot < 4) × StoreInRange store ⌝ }
-    ensures { λ t _. ⌜ tables (now (timers .exit)) (now (registers .exit)) (now (x .exit)) (now (y .exit)) (now (z .exit)) (now (w .exit)) (now (inputs .exit)) (now (outputs .exit)) (now (memory .exit)) ≡ stored slot store t ⌝ }
+    ensures { λ t _. ⌜ tables (now (timers .exit)) (now (registers .exit)) (now (x .exit)) (now (y .exit)) (now (z .exit)) (now (w .exit)) (now (inputs .exit)) (now (outputs .exit)) (now (memory .exit)) (now (on .exit)) ≡ stored slot store t ⌝ }
 {
     match store {
         Store::Timer(n, v) => store_word(&mut timers[slot][..], n, v),
         Store::Register(n, v) => store_word(&mut registers[slot][..], n, v),
         Store::Row(n, row) => store_row(x, y, z, w, slot, n, row),
-        Store::Output(s, v) => store_signal(&mut outputs[slot][..], signal_place(s), v),
-        Store::OutputPort(p, v) => store_port(&mut outputs[slot][..], p, v),
-        Store::MemoryBit(s, v) => store_signal(&mut memory[slot][..], memory_place(s), v),
+        Store::Output(s, v) => {
+            on[slot] = store_output(&mut outputs[slot][..], on[slot], signal_place(s), v);
+        }
+        Store::OutputPort(p, v) => {
+            on[slot] = store_output_port(&mut outputs[slot][..], on[slot], p, v);
+        }
+        Store::MemoryBit(s, v) => store_bit(&mut memory[slot][..], memory_place(s), v),
         Store::MemoryPort(p, v) => store_port(&mut memory[slot][..], p, v),
     }
 }
@@ -167,13 +174,14 @@ pub fn perform(
     inputs: &mut [[u8; 32]; 4],
     outputs: &mut [[u8; 32]; 4],
     memory: &mut [[u8; 16]; 4],
+    on: &mut [u16; 4],
     slot: usize,
     request: Request,
 ) -> Outcome
     ghost { Tables }
-    requires { λ t. ⌜ tables (now timers) (now registers) (now x) (now y) (now z) (now w) (now inputs) (now outputs) (now memory) ≡ t ⌝ }
+    requires { λ t. ⌜ tables (now timers) (now registers) (now x) (now y) (now z) (now w) (now inputs) (now outputs) (now memory) (now on) ≡ t ⌝ }
     requires { λ t. ⌜ (slot < 4) × (judgeRequest request ≡ 0) ⌝ }
-    ensures { λ t r. ⌜ Performed slot request t (tables (now (timers .exit)) (now (registers .exit)) (now (x .exit)) (now (y .exit)) (now (z .exit)) (now (w .exit)) (now (inputs .exit)) (now (outputs .exit)) (now (memory .exit))) r ⌝ }
+    ensures { λ t r. ⌜ Performed slot request t (tables (now (timers .exit)) (now (registers .exit)) (now (x .exit)) (now (y .exit)) (now (z .exit)) (now (w .exit)) (now (inputs .exit)) (now (outputs .exit)) (now (memory .exit)) (now (on .exit))) r ⌝ }
 {
     match request {
         Request::Load(load) => Outcome::Data(run_load(
@@ -200,6 +208,7 @@ pub fn perform(
                 inputs,
                 outputs,
                 memory,
+                on,
                 slot,
                 store,
             );

@@ -15,11 +15,11 @@ use Rattle.cell.proofs.answer_block.Statement.{statement}
 use Rattle.cell.proofs.answer_block.Tie as tie
 
 abbrev Inv-loop : tie.InvT-loop
-Inv-loop timers₀ registers₀ x₀ y₀ z₀ w₀ inputs₀ outputs₀ memory₀ stations input held₀ out₀ state₀ i₀ timers registers x y z w inputs outputs memory held out state i =
-    (i ≤ length input) × (Within held out state × ((state .waiting + 132 ≤ 65536) × BlockTaken (cellOf stations (tables timers₀ registers₀ x₀ y₀ z₀ w₀ inputs₀ outputs₀ memory₀) held₀ out₀ state₀) (take i input) (cellOf stations (tables timers registers x y z w inputs outputs memory) held out state)))
+Inv-loop timers₀ registers₀ x₀ y₀ z₀ w₀ inputs₀ outputs₀ memory₀ on₀ stations input held₀ out₀ state₀ i₀ timers registers x y z w inputs outputs memory on held out state i =
+    (i ≤ length input) × (Within held out state × ((state .waiting + 132 ≤ 65536) × BlockTaken (cellOf stations (tables timers₀ registers₀ x₀ y₀ z₀ w₀ inputs₀ outputs₀ memory₀ on₀) held₀ out₀ state₀) (take i input) (cellOf stations (tables timers registers x y z w inputs outputs memory on) held out state)))
 
 abbrev μ-loop : tie.MeasureT-loop
-μ-loop timers₀ registers₀ x₀ y₀ z₀ w₀ inputs₀ outputs₀ memory₀ stations input held₀ out₀ state₀ i₀ timers registers x y z w inputs outputs memory held out state i =
+μ-loop timers₀ registers₀ x₀ y₀ z₀ w₀ inputs₀ outputs₀ memory₀ on₀ stations input held₀ out₀ state₀ i₀ timers registers x y z w inputs outputs memory on held out state i =
     length input - i
 
 loop-holds : tie.Need-loop-holds Inv-loop μ-loop
@@ -38,7 +38,7 @@ part-take-block-end : tie.Need-part-take-block-end Inv-loop μ-loop
 part-take-block-end c = search needs
 
 take-block-requires : tie.Need-take-block-requires Inv-loop μ-loop
-take-block-requires c κs = c .before .before .before .before .before .before .before .before .before .before .before .before .before .loop .inv .1 .0
+take-block-requires c κs = c .before .before .before .before .before .before .before .before .before .before .before .before .before .before .loop .inv .1 .0
 
 make-room-requires : tie.Need-make-room-requires Inv-loop μ-loop
 make-room-requires c κs =
@@ -47,23 +47,23 @@ make-room-requires c κs =
 
 add-i : tie.Need-add-i Inv-loop μ-loop
 add-i c =
-    let l = c .before .before .before .before .before .before .before .before .before .before .before .before .before .before .before .before .before .before .before .before .before .before in
-    let s = c .before .before .before .before .before .before .before .before .before .before .before .before .before .before .before .before .before .before .before .before .before .before .before .before .before .before .args .input .now in
-    omega (arith, part-within s (l .loop .i) (l .loop .inv .0) (c .before .before .before .before .before .before .before .before .take-block .ensures .0), c .before .before .before .before .before .before .before .before .before .before .before .before .before .before .before .before .before .before .before .before .before .before .before .before .before .before .good .1 .1 .1 .1 .1 .1 .1 .1 .1 .1 .0 .0)
+    let l = c .before .before .before .before .before .before .before .before .before .before .before .before .before .before .before .before .before .before .before .before .before .before .before in
+    let s = c .before .before .before .before .before .before .before .before .before .before .before .before .before .before .before .before .before .before .before .before .before .before .before .before .before .before .before .args .input .now in
+    omega (arith, part-within s (l .loop .i) (l .loop .inv .0) (c .before .before .before .before .before .before .before .before .take-block .ensures .0), c .before .before .before .before .before .before .before .before .before .before .before .before .before .before .before .before .before .before .before .before .before .before .before .before .before .before .before .good .1 .1 .1 .1 .1 .1 .1 .1 .1 .1 .1 .0 .0)
 
 loop-less : tie.Need-loop-less Inv-loop μ-loop
 loop-less c =
-    let l = c .before .before .before .before .before .before .before .before .before .before .before .before .before .before .before .before .before .before .before .before .before .before in
-    let s = c .before .before .before .before .before .before .before .before .before .before .before .before .before .before .before .before .before .before .before .before .before .before .before .before .before .before .args .input .now in
+    let l = c .before .before .before .before .before .before .before .before .before .before .before .before .before .before .before .before .before .before .before .before .before .before .before in
+    let s = c .before .before .before .before .before .before .before .before .before .before .before .before .before .before .before .before .before .before .before .before .before .before .before .before .before .before .before .args .input .now in
     let k = c .before .before .before .before .before .before .before .before .take-block .ensures in
     let n = part-length s (l .loop .i) in
-    let h : l .loop .i < length s = c .before .before .before .before .before .before .before .before .before .before .before .before .before .before .before .before .before .before .before .before .before .loop-test .taken in
+    let h : l .loop .i < length s = c .before .before .before .before .before .before .before .before .before .before .before .before .before .before .before .before .before .before .before .before .before .before .loop-test .taken in
     omega (arith, n, part-some (l .loop .inv .1 .0) (l .loop .inv .1 .1 .0) (omega (arith, n)) (k .1 .1) (k .0) (k .1 .0))
 
 loop-again : tie.Need-loop-again Inv-loop μ-loop
 loop-again c =
-    let l = c .before .before .before .before .before .before .before .before .before .before .before .before .before .before .before .before .before .before .before .before .before .before in
-    let s = c .before .before .before .before .before .before .before .before .before .before .before .before .before .before .before .before .before .before .before .before .before .before .before .before .before .before .args .input .now in
+    let l = c .before .before .before .before .before .before .before .before .before .before .before .before .before .before .before .before .before .before .before .before .before .before .before in
+    let s = c .before .before .before .before .before .before .before .before .before .before .before .before .before .before .before .before .before .before .before .before .before .before .before .before .before .before .before .args .input .now in
     let t = c .before .before .before .before .before .before .before .before .take-block in
     let k = t .ensures in
     let m = c .before .make-room .ensures in (
@@ -75,7 +75,7 @@ loop-again c =
           held-fits = omega (arith, k .1 .1 .held-fits);
           waiting-fits = omega (arith, m .1);
         },
-        (m .1, room-made (t .last .1 .1 .1 .1 .1 .1 .1 .1 .1 .1 .1 .1 .0) (t .result .state .waiting) (m .0) (part-more s (l .loop .i) (l .loop .inv .1 .1 .1) (k .0))),
+        (m .1, room-made (t .last .1 .1 .1 .1 .1 .1 .1 .1 .1 .1 .1 .1 .1 .0) (t .result .state .waiting) (m .0) (part-more s (l .loop .i) (l .loop .inv .1 .1 .1) (k .0))),
       ),
     )
 

@@ -10,11 +10,11 @@ use Rattle.cell.proofs.answer_blocks.Statement.{statement}
 use Rattle.cell.proofs.answer_blocks.Tie as tie
 
 abbrev Inv-loop : tie.InvT-loop
-Inv-loop timers₀ registers₀ x₀ y₀ z₀ w₀ inputs₀ outputs₀ memory₀ stations input₀ held₀ out₀ state₀ blocks₀ n₀ timers registers x y z w inputs outputs memory input held out state blocks n =
+Inv-loop timers₀ registers₀ x₀ y₀ z₀ w₀ inputs₀ outputs₀ memory₀ on₀ stations input₀ held₀ out₀ state₀ blocks₀ n₀ timers registers x y z w inputs outputs memory on input held out state blocks n =
     (length input ≡ length input₀) × ((n ≤ length input) × (Within held out state × (state .waiting + 132 ≤ 65536)))
 
 abbrev μ-loop : tie.MeasureT-loop
-μ-loop timers₀ registers₀ x₀ y₀ z₀ w₀ inputs₀ outputs₀ memory₀ stations input₀ held₀ out₀ state₀ blocks₀ n₀ timers registers x y z w inputs outputs memory input held out state blocks n =
+μ-loop timers₀ registers₀ x₀ y₀ z₀ w₀ inputs₀ outputs₀ memory₀ on₀ stations input₀ held₀ out₀ state₀ blocks₀ n₀ timers registers x y z w inputs outputs memory on input held out state blocks n =
     blocks
 
 read-block-requires : tie.Need-read-block-requires Inv-loop μ-loop
@@ -39,24 +39,24 @@ loop-holds c =
     )
 
 front-requires : tie.Need-front-requires Inv-loop μ-loop
-front-requires c κs = c .before .before .before .before .before .before .before .before .before .before .before .before .loop .inv .1 .0
+front-requires c κs = c .before .before .before .before .before .before .before .before .before .before .before .before .before .loop .inv .1 .0
 
 answer-block-requires : tie.Need-answer-block-requires Inv-loop μ-loop
-answer-block-requires c κs = c .before .before .before .before .before .before .before .before .before .before .before .before .before .before .before .loop .inv .1 .1
+answer-block-requires c κs = c .before .before .before .before .before .before .before .before .before .before .before .before .before .before .before .before .loop .inv .1 .1
 
 read-block-requires-2 : tie.Need-read-block-requires-2 Inv-loop μ-loop
 read-block-requires-2 c κs = search needs
 
 sub-blocks : tie.Need-sub-blocks Inv-loop μ-loop
-sub-blocks c = omega (arith, ltb-true 0 (c .before .before .before .before .before .before .before .before .before .before .before .before .before .before .before .before .before .before .before .before .before .before .before .before .loop .blocks) (c .before .before .before .before .before .before .before .before .before .before .before .before .before .before .before .before .before .before .before .before .before .before .if1 .taken))
+sub-blocks c = omega (arith, ltb-true 0 (c .before .before .before .before .before .before .before .before .before .before .before .before .before .before .before .before .before .before .before .before .before .before .before .before .before .loop .blocks) (c .before .before .before .before .before .before .before .before .before .before .before .before .before .before .before .before .before .before .before .before .before .before .before .if1 .taken))
 
 loop-less : tie.Need-loop-less Inv-loop μ-loop
-loop-less c = omega (arith, ltb-true 0 (c .before .before .before .before .before .before .before .before .before .before .before .before .before .before .before .before .before .before .before .before .before .before .before .before .loop .blocks) (c .before .before .before .before .before .before .before .before .before .before .before .before .before .before .before .before .before .before .before .before .before .before .if1 .taken))
+loop-less c = omega (arith, ltb-true 0 (c .before .before .before .before .before .before .before .before .before .before .before .before .before .before .before .before .before .before .before .before .before .before .before .before .before .loop .blocks) (c .before .before .before .before .before .before .before .before .before .before .before .before .before .before .before .before .before .before .before .before .before .before .before .if1 .taken))
 
 loop-again : tie.Need-loop-again Inv-loop μ-loop
 loop-again c =
     let r = c .before .before .read-block2 in
-    (r .kept .0 ∙ c .before .before .before .before .before .before .before .before .before .before .before .before .before .before .before .before .before .before .before .before .before .before .before .before .loop .inv .0, (r .ensures, c .before .before .before .before .before .before .before .before .answer-block .ensures .1))
+    (r .kept .0 ∙ c .before .before .before .before .before .before .before .before .before .before .before .before .before .before .before .before .before .before .before .before .before .before .before .before .before .loop .inv .0, (r .ensures, c .before .before .before .before .before .before .before .before .answer-block .ensures .1))
 
 same-length : tie.Need-same-length Inv-loop μ-loop
 same-length c = c .before .before .loop .inv .0 ∙ c .before .before .before .before .before .read-block .kept .0

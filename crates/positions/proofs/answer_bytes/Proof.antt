@@ -5,11 +5,11 @@ use Rattle.positions.proofs.answer_bytes.Statement.{statement}
 use Rattle.positions.proofs.answer_bytes.Tie as tie
 
 abbrev Inv-loop : tie.InvT-loop
-Inv-loop timers₀ registers₀ x₀ y₀ z₀ w₀ inputs₀ outputs₀ memory₀ stations input held₀ start n₀ i₀ i-end timers registers x y z w inputs outputs memory held n i =
+Inv-loop timers₀ registers₀ x₀ y₀ z₀ w₀ inputs₀ outputs₀ memory₀ on₀ stations input held₀ start n₀ i₀ i-end timers registers x y z w inputs outputs memory on held n i =
     i ≤ i-end
 
 abbrev μ-loop : tie.MeasureT-loop
-μ-loop timers₀ registers₀ x₀ y₀ z₀ w₀ inputs₀ outputs₀ memory₀ stations input held₀ start n₀ i₀ i-end timers registers x y z w inputs outputs memory held n i =
+μ-loop timers₀ registers₀ x₀ y₀ z₀ w₀ inputs₀ outputs₀ memory₀ on₀ stations input held₀ start n₀ i₀ i-end timers registers x y z w inputs outputs memory on held n i =
     i-end - i
 
 loop-holds : tie.Need-loop-holds Inv-loop μ-loop

@@ -41,7 +41,7 @@ returns : tie.Need-returns
 returns c = search needs
 
 slice-aggregate-front : tie.Need-slice-aggregate-front
-slice-aggregate-front c = slice-length _ _ refl (c .before .before .before .before .before .before .before .before .before .before .before .before .before .read-line .ensures .1)
+slice-aggregate-front c = slice-length _ _ refl (c .before .before .before .before .before .before .before .before .before .before .before .before .before .before .read-line .ensures .1)
 
 front-requires : tie.Need-front-requires
 front-requires c κs = search needs

@@ -7,11 +7,11 @@ use Rattle.positions.proofs.main.Statement.{statement}
 use Rattle.positions.proofs.main.Tie as tie
 
 abbrev Inv-loop : tie.InvT-loop
-Inv-loop timers₀ registers₀ x₀ y₀ z₀ w₀ inputs₀ outputs₀ memory₀ stations input₀ held₀ n₀ t15 counter₀ timers registers x y z w inputs outputs memory input held n counter =
+Inv-loop timers₀ registers₀ x₀ y₀ z₀ w₀ inputs₀ outputs₀ memory₀ on₀ stations input₀ held₀ n₀ t16 counter₀ timers registers x y z w inputs outputs memory on input held n counter =
     (65536 ≡ length input) × (counter ≤ 18446744073709551615)
 
 abbrev μ-loop : tie.MeasureT-loop
-μ-loop timers₀ registers₀ x₀ y₀ z₀ w₀ inputs₀ outputs₀ memory₀ stations input₀ held₀ n₀ t15 counter₀ timers registers x y z w inputs outputs memory input held n counter =
+μ-loop timers₀ registers₀ x₀ y₀ z₀ w₀ inputs₀ outputs₀ memory₀ on₀ stations input₀ held₀ n₀ t16 counter₀ timers registers x y z w inputs outputs memory on input held n counter =
     18446744073709551615 - counter
 
 setup-requires : tie.Need-setup-requires Inv-loop μ-loop

@@ -5,10 +5,10 @@ use Rattle.examples.proofs.run.run.Statement.{statement}
 use Rattle.examples.proofs.run.run.Tie as tie
 
 abbrev Inv-loop : tie.InvT-loop
-Inv-loop t₀ d₀ x₀ y₀ z₀ w₀ i₀ o₀ m₀ s₀ script before₀ k₀ k-end t d x y z w i o m s before k = Unit
+Inv-loop t₀ d₀ x₀ y₀ z₀ w₀ i₀ o₀ m₀ on₀ s₀ script before₀ k₀ k-end t d x y z w i o m on s before k = Unit
 
 abbrev μ-loop : tie.MeasureT-loop
-μ-loop t₀ d₀ x₀ y₀ z₀ w₀ i₀ o₀ m₀ s₀ script before₀ k₀ k-end t d x y z w i o m s before k = k-end - k
+μ-loop t₀ d₀ x₀ y₀ z₀ w₀ i₀ o₀ m₀ on₀ s₀ script before₀ k₀ k-end t d x y z w i o m on s before k = k-end - k
 
 count-requires : tie.Need-count-requires Inv-loop μ-loop
 count-requires c κs = search needs

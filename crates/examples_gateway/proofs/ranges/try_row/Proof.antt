@@ -5,10 +5,10 @@ use Rattle.examples_gateway.proofs.ranges.try_row.Statement.{statement}
 use Rattle.examples_gateway.proofs.ranges.try_row.Tie as tie
 
 abbrev Inv-loop : tie.InvT-loop
-Inv-loop t₀ d₀ x₀ y₀ z₀ w₀ i₀ o₀ m₀ s row n₀ n-end t d x y z w i o m n = n-end ≤ 24
+Inv-loop t₀ d₀ x₀ y₀ z₀ w₀ i₀ o₀ m₀ on₀ s row n₀ n-end t d x y z w i o m on n = n-end ≤ 24
 
 abbrev μ-loop : tie.MeasureT-loop
-μ-loop t₀ d₀ x₀ y₀ z₀ w₀ i₀ o₀ m₀ s row n₀ n-end t d x y z w i o m n = n-end - n
+μ-loop t₀ d₀ x₀ y₀ z₀ w₀ i₀ o₀ m₀ on₀ s row n₀ n-end t d x y z w i o m on n = n-end - n
 
 count-of-requires : tie.Need-count-of-requires Inv-loop μ-loop
 count-of-requires c κs = search needs

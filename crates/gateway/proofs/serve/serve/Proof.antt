@@ -91,7 +91,7 @@ enum-known-found c = search needs
 
 serve-body-requires : tie.Need-serve-body-requires
 serve-body-requires c κs =
-    let p = c .before .before .before .before .before .before .before .before .before .before .before in
+    let p = c .before .before .before .before .before .before .before .before .before .before .before .before in
     let l = p .before .before in
     let f = l .before .before in
     let i = f .before .before .before .before in
@@ -110,7 +110,7 @@ same-length c = search needs
 returns-3 : tie.Need-returns-3
 returns-3 c =
     let b = c .before .before in
-    let p = b .before .before .before .before .before .before .before .before .before .before .before .before in
+    let p = b .before .before .before .before .before .before .before .before .before .before .before .before .before in
     let l = p .before .before in
     let f = l .before .before in
     let i = f .before .before .before .before in

@@ -53,7 +53,7 @@ enum-known-judged c = search needs
 
 perform-requires : tie.Need-perform-requires
 perform-requires c κs =
-    let v = c .before .before .before .before .before .before .before .before .before .before in
+    let v = c .before .before .before .before .before .before .before .before .before .before .before in
     let b = v .before .before in
     let a = b .before .before .before .before in
     (a .pre .0 .0, accepted-in-range _ (v .judged .given .0 .0) (body-judged (a .args .slice .now) (b .read-body .ensures) (v .judged .given .1)))
@@ -74,7 +74,7 @@ returns : tie.Need-returns
 returns c =
     let w = c .before .before in
     let p = w .before .before in
-    let v = p .before .before .before .before .before .before .before .before .before .before .before in
+    let v = p .before .before .before .before .before .before .before .before .before .before .before .before in
     let b = v .before .before in
     let a = b .before .before .before .before in
     asked-served (a .pre .0 .1) (body-judged (a .args .slice .now) (b .read-body .ensures) (v .judged .given .1)) (p .perform .ensures) (w .put-reply .ensures)

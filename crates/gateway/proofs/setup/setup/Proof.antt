@@ -12,7 +12,7 @@ use Rattle.gateway.proofs.setup.setup.Statement.{statement}
 use Rattle.gateway.proofs.setup.setup.Tie as tie
 
 -- where setup is accepted, a station fits a byte
-fits : (c : tie.Else1) (k : ℕ) → getD (c .before .before .before .before .before .before .before .before .before .before .before .before .args .t11) k 0 ≤ 99
+fits : (c : tie.Else1) (k : ℕ) → getD (c .before .before .before .before .before .before .before .before .before .before .before .before .before .args .t12) k 0 ≤ 99
 fits c k = accepted-small _ k (sym (c .before .judge-setup .ensures) ∙ c .if1 .left)
 
 returns : tie.Need-returns
@@ -29,11 +29,11 @@ returns-2 : tie.Need-returns-2
 unfolding setup
 returns-2 c =
     let j = c .before .before in
-    let s = j .before .before .before .before .before .before .before .before .before .before .before in
+    let s = j .before .before .before .before .before .before .before .before .before .before .before .before in
     let e = sym (j .judge-setup .ensures) ∙ c .before .if1 .left in
     record {
       number-is = sym e;
-      stations-are = accepted-stations (s .args .t11) (good-length (eInt w16) 4 (s .args .t11) _ (s .good .1 .1 .1 .1 .1 .1 .1 .1 .1 .1 .0)) e;
+      stations-are = accepted-stations (s .args .t12) (good-length (eInt w16) 4 (s .args .t12) _ (s .good .1 .1 .1 .1 .1 .1 .1 .1 .1 .1 .1 .0)) e;
       tables-are = j .before .clear .ensures;
     }
 

@@ -61,12 +61,12 @@ enum-known-what c = search needs
 
 array-share-prefix-slice : tie.Need-array-share-prefix-slice
 array-share-prefix-slice c =
-    let m = c .before .before .before .before .before .before .before .before .before .before in
+    let m = c .before .before .before .before .before .before .before .before .before .before .before in
     within _ _ refl (m .what .given .1) (m .before .before .read-line .ensures)
 
 slice-aggregate-answer-call : tie.Need-slice-aggregate-answer-call
 slice-aggregate-answer-call c =
-    let m = c .before .before .before .before .before .before .before .before .before .before .before in
+    let m = c .before .before .before .before .before .before .before .before .before .before .before .before in
     sym (length-take-le _ _ (within _ _ refl (m .what .given .1) (m .before .before .read-line .ensures)))
 
 answer-call-requires : tie.Need-answer-call-requires
@@ -83,7 +83,7 @@ same-length c = search needs
 
 returns : tie.Need-returns
 returns c =
-    let m = c .before .before .before .before .before .before .before .before .before .before .before .before .before .before .before in
+    let m = c .before .before .before .before .before .before .before .before .before .before .before .before .before .before .before .before in
     call-answered _ _ refl (m .what .given .1) (m .before .before .read-line .ensures) (c .before .before .answer-call .ensures)
 
 same-length-2 : tie.Need-same-length-2

@@ -18,7 +18,7 @@ same-length c = search needs
 returns-2 : tie.Need-returns-2
 returns-2 c =
     let e = c .before .before .end-line .ensures in
-    (e .0 ∙ sym (finished-more (c .before .before .before .before .before .before .before .before .before .before .before .before .before .before .before .before .before .pre .0) _ _ (c .before .before .before .before .before .before .before .before .before .before .before .before .before .if1 .left)), e .1)
+    (e .0 ∙ sym (finished-more (c .before .before .before .before .before .before .before .before .before .before .before .before .before .before .before .before .before .before .pre .0) _ _ (c .before .before .before .before .before .before .before .before .before .before .before .before .before .before .if1 .left)), e .1)
 
 pub answer-last-spec : {M : Type 1} → statement M
 answer-last-spec = tie.close (tie.spec returns end-line-requires same-length returns-2)

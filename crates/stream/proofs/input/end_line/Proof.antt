@@ -14,7 +14,7 @@ same-length c = search needs
 
 returns : tie.Need-returns
 returns c =
-    let s = c .before .before .before .before .before .before .before .before .before .before .before .before .before .before .before .before in
+    let s = c .before .before .before .before .before .before .before .before .before .before .before .before .before .before .before .before .before in
     let a = c .before .before .answer-line .ensures in
     (line-ended (s .pre .0) (s .pre .1) (c .before .before .before .before .front .ensures) a, ended-within (s .pre .0) (s .pre .1) a)
 

@@ -15,11 +15,11 @@ use Rattle.stream.proofs.input.take_block.Statement.{statement}
 use Rattle.stream.proofs.input.take_block.Tie as tie
 
 abbrev Inv-loop : tie.InvT-loop
-Inv-loop timers₀ registers₀ x₀ y₀ z₀ w₀ inputs₀ outputs₀ memory₀ stations input held₀ out₀ state₀ i₀ timers registers x y z w inputs outputs memory held out state i =
-    (i ≤ length input) × (Within held out state × (cellOf stations (tables timers registers x y z w inputs outputs memory) held out state ≡ takenAll (cellOf stations (tables timers₀ registers₀ x₀ y₀ z₀ w₀ inputs₀ outputs₀ memory₀) held₀ out₀ state₀) (take i input)))
+Inv-loop timers₀ registers₀ x₀ y₀ z₀ w₀ inputs₀ outputs₀ memory₀ on₀ stations input held₀ out₀ state₀ i₀ timers registers x y z w inputs outputs memory on held out state i =
+    (i ≤ length input) × (Within held out state × (cellOf stations (tables timers registers x y z w inputs outputs memory on) held out state ≡ takenAll (cellOf stations (tables timers₀ registers₀ x₀ y₀ z₀ w₀ inputs₀ outputs₀ memory₀ on₀) held₀ out₀ state₀) (take i input)))
 
 abbrev μ-loop : tie.MeasureT-loop
-μ-loop timers₀ registers₀ x₀ y₀ z₀ w₀ inputs₀ outputs₀ memory₀ stations input held₀ out₀ state₀ i₀ timers registers x y z w inputs outputs memory held out state i =
+μ-loop timers₀ registers₀ x₀ y₀ z₀ w₀ inputs₀ outputs₀ memory₀ on₀ stations input held₀ out₀ state₀ i₀ timers registers x y z w inputs outputs memory on held out state i =
     length input - i
 
 loop-holds : tie.Need-loop-holds Inv-loop μ-loop
@@ -40,26 +40,26 @@ part-take-line-end c = search needs
 
 take-line-requires : tie.Need-take-line-requires Inv-loop μ-loop
 take-line-requires c κs =
-    let l = c .before .before .before .before .before .before .before .before .before .before .before .before .before .before .before in
-    (l .loop .inv .1 .0, room _ _ (c .before .before .before .before .before .before .before .before .before .before .before .before .if1 .taken) (omega arith))
+    let l = c .before .before .before .before .before .before .before .before .before .before .before .before .before .before .before .before in
+    (l .loop .inv .1 .0, room _ _ (c .before .before .before .before .before .before .before .before .before .before .before .before .before .if1 .taken) (omega arith))
 
 add-i : tie.Need-add-i Inv-loop μ-loop
 add-i c =
-    let l = c .before .before .before .before .before .before .before .before .before .before .before .before .before .before .before .before .before .before .before .before .before .before in
-    let s = c .before .before .before .before .before .before .before .before .before .before .before .before .before .before .before .before .before .before .before .before .before .before .before .before .before .before .args .input .now in
-    omega (arith, part-within s (l .loop .i) (l .loop .inv .0) (c .before .before .before .before .before .before .take-line .ensures .0), c .before .before .before .before .before .before .before .before .before .before .before .before .before .before .before .before .before .before .before .before .before .before .before .before .before .before .good .1 .1 .1 .1 .1 .1 .1 .1 .1 .1 .0 .0)
+    let l = c .before .before .before .before .before .before .before .before .before .before .before .before .before .before .before .before .before .before .before .before .before .before .before in
+    let s = c .before .before .before .before .before .before .before .before .before .before .before .before .before .before .before .before .before .before .before .before .before .before .before .before .before .before .before .args .input .now in
+    omega (arith, part-within s (l .loop .i) (l .loop .inv .0) (c .before .before .before .before .before .before .take-line .ensures .0), c .before .before .before .before .before .before .before .before .before .before .before .before .before .before .before .before .before .before .before .before .before .before .before .before .before .before .before .good .1 .1 .1 .1 .1 .1 .1 .1 .1 .1 .1 .0 .0)
 
 loop-less : tie.Need-loop-less Inv-loop μ-loop
 loop-less c =
-    let l = c .before .before .before .before .before .before .before .before .before .before .before .before .before .before .before .before .before .before .before .before .before .before in
-    let s = c .before .before .before .before .before .before .before .before .before .before .before .before .before .before .before .before .before .before .before .before .before .before .before .before .before .before .args .input .now in
-    let h : l .loop .i < length s = c .before .before .before .before .before .before .before .before .before .before .before .before .before .before .before .before .before .before .before .before .before .loop-test .taken in
+    let l = c .before .before .before .before .before .before .before .before .before .before .before .before .before .before .before .before .before .before .before .before .before .before .before in
+    let s = c .before .before .before .before .before .before .before .before .before .before .before .before .before .before .before .before .before .before .before .before .before .before .before .before .before .before .before .args .input .now in
+    let h : l .loop .i < length s = c .before .before .before .before .before .before .before .before .before .before .before .before .before .before .before .before .before .before .before .before .before .before .loop-test .taken in
     omega (arith, h, c .before .before .before .before .before .before .take-line .ensures .1 .1 (omega (arith, part-length s (l .loop .i))))
 
 loop-again : tie.Need-loop-again Inv-loop μ-loop
 loop-again c =
-    let l = c .before .before .before .before .before .before .before .before .before .before .before .before .before .before .before .before .before .before .before .before .before .before in
-    let s = c .before .before .before .before .before .before .before .before .before .before .before .before .before .before .before .before .before .before .before .before .before .before .before .before .before .before .args .input .now in
+    let l = c .before .before .before .before .before .before .before .before .before .before .before .before .before .before .before .before .before .before .before .before .before .before .before in
+    let s = c .before .before .before .before .before .before .before .before .before .before .before .before .before .before .before .before .before .before .before .before .before .before .before .before .before .before .before .args .input .now in
     let k = c .before .before .before .before .before .before .take-line .ensures in
     (part-within s (l .loop .i) (l .loop .inv .0) (k .0), (k .1 .0, part-taken _ s (l .loop .i) (l .loop .inv .1 .1) (k .0)))
 

@@ -18,18 +18,18 @@ enum-known-request-2 c = search needs
 
 run-store-requires : tie.Need-run-store-requires
 run-store-requires c κs =
-    let a = c .before .before .before .before .before .before .before .before .before .before in
+    let a = c .before .before .before .before .before .before .before .before .before .before .before in
     let start = a .before .before in
     (start .pre .0, rw (a .request2 .given .1) at (start .pre .1))
 
 returns : tie.Need-returns
 returns c =
     rw (c .before .before .before .before .before .before .before .before .before .before .before .request .given .1)
-    (record { outcome = ap outcome.Data (c .run-load .ensures); tables = refl })
+    (record { outcome = ap outcome.Data (c .run-load .ensures _); tables = refl })
 
 returns-2 : tie.Need-returns-2
 returns-2 c =
-    rw (c .before .before .before .before .before .before .before .before .before .before .before .request2 .given .1)
+    rw (c .before .before .before .before .before .before .before .before .before .before .before .before .request2 .given .1)
     (record { outcome = refl; tables = c .run-store .ensures })
 
 pub perform-spec : {M : Type 1} → statement M

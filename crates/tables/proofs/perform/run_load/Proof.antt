@@ -72,46 +72,46 @@ load-port-requires-3 c κs =
 
 returns : tie.Need-returns
 unfolding loaded
-returns c =
+returns c on =
     rw (c .before .before .before .before .load .given .1)
     (ap held.Timer (toZ-ofZ {w = w32} (record { sfits = c .load-word .ok }) ∙ c .load-word .ensures))
 
 returns-2 : tie.Need-returns-2
 unfolding loaded
-returns-2 c =
+returns-2 c on =
     rw (c .before .before .before .before .load2 .given .1)
     (ap held.Register (toZ-ofZ {w = w32} (record { sfits = c .load-word2 .ok }) ∙ c .load-word2 .ensures))
 
 returns-3 : tie.Need-returns-3
 unfolding loaded
-returns-3 c = rw (c .before .before .load3 .given .1) (c .load-row .ensures)
+returns-3 c on = rw (c .before .before .load3 .given .1) (c .load-row .ensures)
 
 returns-4 : tie.Need-returns-4
 unfolding loaded
-returns-4 c =
+returns-4 c on =
     rw (c .before .before .before .before .before .load4 .given .1) (rw (c .before .signal-place .ensures) at (c .load-signal .ensures))
 
 returns-5 : tie.Need-returns-5
 unfolding loaded
-returns-5 c = rw (c .before .before .before .before .load5 .given .1) (c .load-port .ensures)
+returns-5 c on = rw (c .before .before .before .before .load5 .given .1) (c .load-port .ensures)
 
 returns-6 : tie.Need-returns-6
 unfolding loaded
-returns-6 c =
+returns-6 c on =
     rw (c .before .before .before .before .before .load6 .given .1) (rw (c .before .signal-place2 .ensures) at (c .load-signal2 .ensures))
 
 returns-7 : tie.Need-returns-7
 unfolding loaded
-returns-7 c = rw (c .before .before .before .before .load7 .given .1) (c .load-port2 .ensures)
+returns-7 c on = rw (c .before .before .before .before .load7 .given .1) (c .load-port2 .ensures)
 
 returns-8 : tie.Need-returns-8
 unfolding loaded
-returns-8 c =
+returns-8 c on =
     rw (c .before .before .before .before .before .load8 .given .1) (rw (c .before .memory-place .ensures) at (c .load-signal3 .ensures))
 
 returns-9 : tie.Need-returns-9
 unfolding loaded
-returns-9 c = rw (c .before .before .before .before .load9 .given .1) (c .load-port3 .ensures)
+returns-9 c on = rw (c .before .before .before .before .load9 .given .1) (c .load-port3 .ensures)
 
 -- a line for each arm, then what each arm returns
 pub run-load-spec : {M : Type 1} → statement M

@@ -22,31 +22,31 @@ store-row-requires c κs =
     (a .before .before .pre .0, store-within (a .store3 .given .1) (a .before .before .pre .1) .0)
 
 signal-place-requires : tie.Need-signal-place-requires
-signal-place-requires c κs = let a = c .before .before in store-within (a .store4 .given .1) (a .before .before .pre .1) .0
+signal-place-requires c κs = let a = c .before .before .before in store-within (a .store4 .given .1) (a .before .before .pre .1) .0
 
-store-signal-requires : tie.Need-store-signal-requires
-store-signal-requires c κs =
-    let a = c .before .before .before in
+store-output-requires : tie.Need-store-output-requires
+store-output-requires c κs =
+    let a = c .before .before .before .before in
     let b = store-within (a .store4 .given .1) (a .before .before .pre .1) in
     rw (c .signal-place .ensures, b .1 .same) (search needs)
 
-store-port-requires : tie.Need-store-port-requires
-store-port-requires c κs =
-    let a = c .before .before in
+store-output-port-requires : tie.Need-store-output-port-requires
+store-output-port-requires c κs =
+    let a = c .before .before .before in
     let b = store-within (a .store5 .given .1) (a .before .before .pre .1) in
     rw (b .1 .same) (search needs)
 
 memory-place-requires : tie.Need-memory-place-requires
 memory-place-requires c κs = let a = c .before .before in store-within (a .store6 .given .1) (a .before .before .pre .1) .0
 
-store-signal-requires-2 : tie.Need-store-signal-requires-2
-store-signal-requires-2 c κs =
+store-bit-requires : tie.Need-store-bit-requires
+store-bit-requires c κs =
     let a = c .before .before .before in
     let b = store-within (a .store6 .given .1) (a .before .before .pre .1) in
     rw (c .memory-place .ensures, b .1 .same) (search needs)
 
-store-port-requires-2 : tie.Need-store-port-requires-2
-store-port-requires-2 c κs =
+store-port-requires : tie.Need-store-port-requires
+store-port-requires c κs =
     let a = c .before .before in
     let b = store-within (a .store7 .given .1) (a .before .before .pre .1) in
     rw (b .1 .same) (search needs)
@@ -74,30 +74,32 @@ returns-3 c =
 returns-4 : tie.Need-returns-4
 unfolding stored
 returns-4 c =
-    let a = c .before .before .before .before in
+    let a = c .before .before .before .before .before in
     let b = store-within (a .store4 .given .1) (a .before .before .pre .1) in
-    rw (a .store4 .given .1, rw (c .before .signal-place .ensures, b .1 .same) at (c .store-signal .ensures))
+    let e = rw (c .before .signal-place .ensures, b .1 .same) at (c .store-output .ensures) in
+    rw (a .store4 .given .1, e .0, e .1)
 
 returns-5 : tie.Need-returns-5
 unfolding stored
 returns-5 c =
-    let a = c .before .before .before in
+    let a = c .before .before .before .before in
     let b = store-within (a .store5 .given .1) (a .before .before .pre .1) in
-    rw (a .store5 .given .1, rw (b .1 .same) at (c .store-port .ensures))
+    let e = rw (b .1 .same) at (c .store-output-port .ensures) in
+    rw (a .store5 .given .1, e .0, e .1)
 
 returns-6 : tie.Need-returns-6
 unfolding stored
 returns-6 c =
     let a = c .before .before .before .before in
     let b = store-within (a .store6 .given .1) (a .before .before .pre .1) in
-    rw (a .store6 .given .1, rw (c .before .memory-place .ensures, b .1 .same) at (c .store-signal2 .ensures))
+    rw (a .store6 .given .1, rw (c .before .memory-place .ensures, b .1 .same) at (c .store-bit .ensures))
 
 returns-7 : tie.Need-returns-7
 unfolding stored
 returns-7 c =
     let a = c .before .before .before in
     let b = store-within (a .store7 .given .1) (a .before .before .pre .1) in
-    rw (a .store7 .given .1, rw (b .1 .same) at (c .store-port2 .ensures))
+    rw (a .store7 .given .1, rw (b .1 .same) at (c .store-port .ensures))
 
 -- a line for each arm, then what each arm returns
 pub run-store-spec : {M : Type 1} → statement M
@@ -107,8 +109,8 @@ run-store-spec =
     (λ c. search needs) (λ c. search needs) (λ c. search needs) store-word-requires
     (λ c. search needs) (λ c. search needs) (λ c. search needs) store-word-requires-2
     (λ c. search needs) store-row-requires
-    (λ c. search needs) (λ c. search needs) (λ c. search needs) signal-place-requires store-signal-requires
+    (λ c. search needs) (λ c. search needs) (λ c. search needs) (λ c. search needs) (λ c. search needs) signal-place-requires store-output-requires (λ c. search needs) (λ c. search needs)
+    (λ c. search needs) (λ c. search needs) (λ c. search needs) (λ c. search needs) (λ c. search needs) store-output-port-requires (λ c. search needs) (λ c. search needs)
+    (λ c. search needs) (λ c. search needs) (λ c. search needs) memory-place-requires store-bit-requires
     (λ c. search needs) (λ c. search needs) (λ c. search needs) store-port-requires
-    (λ c. search needs) (λ c. search needs) (λ c. search needs) memory-place-requires store-signal-requires-2
-    (λ c. search needs) (λ c. search needs) (λ c. search needs) store-port-requires-2
     returns returns-2 returns-3 returns-4 returns-5 returns-6 returns-7)

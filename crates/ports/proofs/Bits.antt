@@ -5,8 +5,8 @@ use mathlib.Core.Bool.{Bool, _||_}
 use native.Mathlib.Omega.{arith}
 use borrow.Author.Tests.{eqb-true, ne-eqb}
 use lib.Dec.{eqb}
-use Rattle.tables.specs.Bits.{bit, withBit, BitStored, OtherBitsKept, sum, PortIsSum}
-use Rattle.tables.proofs.Laws.{all, all-at}
+use Rattle.ports.specs.Bits.{bit, withBit, BitStored, OtherBitsKept, sum, PortIsSum}
+use Rattle.ports.proofs.Laws.{all, all-at}
 
 -- what the steps of `with_bit` ask at bit k of the byte b and the new bit v, and what they leave there
 pub record Steps (b k v : ℕ) : Type 0 where

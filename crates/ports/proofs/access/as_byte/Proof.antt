@@ -3,8 +3,8 @@ use native.Mathlib.Omega.{arith}
 use lib.IntN.{natAbs}
 use mir.Facts.{toZ-ofZ}
 use borrow.Author.Needs.{needs}
-use Rattle.tables.proofs.ports.as_byte.Statement.{statement}
-use Rattle.tables.proofs.ports.as_byte.Tie as tie
+use Rattle.ports.proofs.access.as_byte.Statement.{statement}
+use Rattle.ports.proofs.access.as_byte.Tie as tie
 
 sized : (c : tie.After-unsigned-abs) → c .unsigned-abs .result ≡ natAbs (c .before .args .v)
 sized c = c .unsigned-abs .ensures ∙ ap natAbs (toZ-ofZ (c .before .fits .v))

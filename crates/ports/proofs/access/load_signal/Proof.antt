@@ -4,8 +4,8 @@ use mir.Facts.{toZ-ofZ}
 use mir.Syntax.{w32}
 use Rattle.bodies.specs.declared.reply.Data.the-variants as held
 use borrow.Author.Needs.{needs}
-use Rattle.tables.proofs.ports.load_signal.Statement.{statement}
-use Rattle.tables.proofs.ports.load_signal.Tie as tie
+use Rattle.ports.proofs.access.load_signal.Statement.{statement}
+use Rattle.ports.proofs.access.load_signal.Tie as tie
 
 shared-slice-read-bit-of : tie.Need-shared-slice-read-bit-of
 shared-slice-read-bit-of c = search needs

@@ -1,4 +1,5 @@
-// The ports of one arm, whole and by signal. Inputs, outputs and memory share it; inputs are only read here.
+// The ports of one arm, whole and by signal. Inputs, outputs and memory share what reads them. A write of an output port
+// also changes the number of outputs that are on: it is given the number, and returns what it then is.
 use crate::place::Place;
 use bodies::reply::Data;
 use commands::request::Port;
@@ -8,7 +9,8 @@ ghost use Prim.Native.Nat.{_<_};
 ghost use lib.ListN.{length, getD, set};
 ghost use lib.IntN.{natAbs, pos};
 ghost use Rattle.bodies.specs.declared.reply.Data.the-variants as held;
-ghost use Rattle.tables.specs.Bits.{bit, withBit};
+ghost use Rattle.ports.specs.Bits.{bit, withBit};
+ghost use Rattle.ports.specs.On.{moved};
 
 // Bit k of a byte.
 fn bit_of(b: u8, k: u8) -> u8
@@ -68,8 +70,26 @@ fn set_port(ports: &mut [u8], port: usize, v: u8)
     ports[port] = v;
 }
 
-// Replaces the signal at a place.
-pub fn store_signal(ports: &mut [u8], place: Place, v: i32)
+// The number kept, once a port has `after` for `before`. Adding 65536 keeps the difference above zero.
+fn moved_by(total: u16, before: u8, after: u8) -> u16
+    ensures { λ r. ⌜ r ≡ moved total before after ⌝ }
+{
+    ((total as u32 + u8::count_ones(after) + 65536 - u8::count_ones(before)) % 65536) as u16
+}
+
+// Puts a byte into an output port, and returns the number kept then. Every write of an output port goes through here.
+fn set_output(ports: &mut [u8], on: u16, port: usize, v: u8) -> u16
+    requires { ⌜ port < length (now ports) ⌝ }
+    ensures { λ _. ⌜ now (ports .exit) ≡ set (now (ports .entry)) port v ⌝ }
+    ensures { λ r. ⌜ r ≡ moved on (getD (now (ports .entry)) port 0) v ⌝ }
+{
+    let before = ports[port];
+    set_port(ports, port, v);
+    moved_by(on, before, v)
+}
+
+// Replaces the memory bit at a place.
+pub fn store_bit(ports: &mut [u8], place: Place, v: i32)
     requires { ⌜ (place .port < length (now ports)) × ((place .bit < 8) × (natAbs v < 2)) ⌝ }
     ensures { λ _. ⌜ now (ports .exit) ≡ set (now (ports .entry)) (place .port) (withBit (getD (now (ports .entry)) (place .port) 0) (place .bit) (natAbs v)) ⌝ }
 {
@@ -78,11 +98,32 @@ pub fn store_signal(ports: &mut [u8], place: Place, v: i32)
     set_port(ports, port, b);
 }
 
-// Replaces a whole port.
+// Replaces a whole memory port.
 pub fn store_port(ports: &mut [u8], port: Port, v: i32)
     requires { ⌜ (port .0 < length (now ports)) × (natAbs v < 256) ⌝ }
     ensures { λ _. ⌜ now (ports .exit) ≡ set (now (ports .entry)) (port .0) (natAbs v) ⌝ }
 {
     let p = port.0 as usize;
     set_port(ports, p, as_byte(v));
+}
+
+// Replaces the output at a place.
+pub fn store_output(ports: &mut [u8], on: u16, place: Place, v: i32) -> u16
+    requires { ⌜ (place .port < length (now ports)) × ((place .bit < 8) × (natAbs v < 2)) ⌝ }
+    ensures { λ _. ⌜ now (ports .exit) ≡ set (now (ports .entry)) (place .port) (withBit (getD (now (ports .entry)) (place .port) 0) (place .bit) (natAbs v)) ⌝ }
+    ensures { λ r. ⌜ r ≡ moved on (getD (now (ports .entry)) (place .port) 0) (withBit (getD (now (ports .entry)) (place .port) 0) (place .bit) (natAbs v)) ⌝ }
+{
+    let port = place.port;
+    let b = with_bit(ports[port], place.bit, as_byte(v));
+    set_output(ports, on, port, b)
+}
+
+// Replaces a whole output port.
+pub fn store_output_port(ports: &mut [u8], on: u16, port: Port, v: i32) -> u16
+    requires { ⌜ (port .0 < length (now ports)) × (natAbs v < 256) ⌝ }
+    ensures { λ _. ⌜ now (ports .exit) ≡ set (now (ports .entry)) (port .0) (natAbs v) ⌝ }
+    ensures { λ r. ⌜ r ≡ moved on (getD (now (ports .entry)) (port .0) 0) (natAbs v) ⌝ }
+{
+    let p = port.0 as usize;
+    set_output(ports, on, p, as_byte(v))
 }

@@ -1,8 +1,8 @@
 use native.Mathlib.Omega.{arith}
 use mir.Facts.{toZ-ofZ}
 use borrow.Author.Needs.{needs}
-use Rattle.tables.proofs.ports.store_signal.Statement.{statement}
-use Rattle.tables.proofs.ports.store_signal.Tie as tie
+use Rattle.ports.proofs.access.store_bit.Statement.{statement}
+use Rattle.ports.proofs.access.store_bit.Tie as tie
 
 slice-read-with-bit : tie.Need-slice-read-with-bit
 slice-read-with-bit c = search needs
@@ -26,8 +26,8 @@ returns c =
     let byte = made .before in
     rw (call .set-port .ensures, made .with-bit .ensures, byte .as-byte .ensures, toZ-ofZ (byte .before .before .before .fits .v))
 
-pub store-signal-spec : {M : Type 1} → statement M
-store-signal-spec =
+pub store-bit-spec : {M : Type 1} → statement M
+store-bit-spec =
     tie.close
     (tie.spec
     slice-read-with-bit

@@ -1,7 +1,7 @@
 use mir.Facts.{toZ-ofZ}
 use borrow.Author.Needs.{needs}
-use Rattle.tables.proofs.ports.store_port.Statement.{statement}
-use Rattle.tables.proofs.ports.store_port.Tie as tie
+use Rattle.ports.proofs.access.store_port.Statement.{statement}
+use Rattle.ports.proofs.access.store_port.Tie as tie
 
 cast-p : tie.Need-cast-p
 cast-p c = search needs

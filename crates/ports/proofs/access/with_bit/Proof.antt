@@ -2,9 +2,9 @@ use Prim.Native.Nat.{ℕ, _+_, _-_, _*_, _/_, _%_, _^_}
 use mathlib.Core.Path.{ap}
 use native.Mathlib.Omega.{arith}
 use borrow.Author.Needs.{needs}
-use Rattle.tables.proofs.Bits.{Steps, steps}
-use Rattle.tables.proofs.ports.with_bit.Statement.{statement}
-use Rattle.tables.proofs.ports.with_bit.Tie as tie
+use Rattle.ports.proofs.Bits.{Steps, steps}
+use Rattle.ports.proofs.access.with_bit.Statement.{statement}
+use Rattle.ports.proofs.access.with_bit.Tie as tie
 
 known : (c : tie.Start) → Steps (c .args .b) (c .args .k) (c .args .v)
 known c = steps _ _ _ (search needs) (search needs) (search needs)

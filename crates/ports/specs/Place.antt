@@ -1,6 +1,6 @@
 -- Where a signal stands (document 01, "Commands"): bit b of port p is signal first + 8p + b.
 use Prim.Native.Nat.{ℕ, _-_, _/_, _%_}
-use Rattle.tables.specs.declared.place.Place.{Place}
+use Rattle.ports.specs.declared.place.Place.{Place}
 
 -- the port and the bit of a signal
 abbrev pub placeOf : ℕ → ℕ → Place

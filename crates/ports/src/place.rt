@@ -2,7 +2,7 @@
 use commands::request::Signal;
 ghost use mathlib.Core.Path.{_≡_};
 ghost use Prim.Native.Nat.{_≤_, _<_};
-ghost use Rattle.tables.specs.Place.{placeOf};
+ghost use Rattle.ports.specs.Place.{placeOf};
 
 // A bit of a port.
 pub struct Place {

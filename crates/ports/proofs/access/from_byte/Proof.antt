@@ -1,8 +1,8 @@
 use mir.Facts.{toZ-pos}
 use mir.Syntax.{w32}
 use borrow.Author.Needs.{needs}
-use Rattle.tables.proofs.ports.from_byte.Statement.{statement}
-use Rattle.tables.proofs.ports.from_byte.Tie as tie
+use Rattle.ports.proofs.access.from_byte.Statement.{statement}
+use Rattle.ports.proofs.access.from_byte.Tie as tie
 
 cast-result : tie.Need-cast-result
 cast-result c = search needs
