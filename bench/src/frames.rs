@@ -1,6 +1,7 @@
-//! Frames and calls from a generator with a fixed seed.
+//! Frames, calls and memory from a generator with a fixed seed.
 
-use crate::reference::{lrc, ABSENT, COMMAND, END, ETX, LENGTH, LRC, NUMBER, SHAPE, START, STATION, STRAY, STX, VALUE};
+use crate::reference::{lrc, Tables};
+use crate::reference::{ABSENT, COMMAND, END, ETX, LENGTH, LRC, NUMBER, SHAPE, START, STATION, STRAY, STX, VALUE};
 
 /// The stations of the benchmark set.
 pub const STATIONS: [u8; 4] = [1, 7, 42, 99];
@@ -166,7 +167,7 @@ impl Request {
     }
 }
 
-fn frame(text: &[u8]) -> Vec<u8> {
+pub fn frame(text: &[u8]) -> Vec<u8> {
     let mut slice = vec![STX];
     slice.extend_from_slice(text);
     slice.push(ETX);
@@ -436,6 +437,8 @@ pub enum Call {
         port: u16,
         byte: u8,
     },
+    /// Asks how many outputs of the slot's arm are on.
+    OutputsOn(usize),
     /// A slice and the length of the reply area.
     Serve {
         slice: Vec<u8>,
@@ -454,6 +457,8 @@ pub fn call(random: &mut Random, stations: &[u8; 4]) -> Call {
         Call::Setup(wanted(random))
     } else if random.one_in(12) {
         input(random)
+    } else if random.one_in(12) {
+        Call::OutputsOn(slot(random))
     } else {
         let slice = loop {
             let slice = served(random, stations);
@@ -488,16 +493,34 @@ fn wanted(random: &mut Random) -> [u16; 4] {
     want
 }
 
-fn input(random: &mut Random) -> Call {
-    let slot = match random.one_in(10) {
+fn slot(random: &mut Random) -> usize {
+    match random.one_in(10) {
         true => random.pick(&[4, 5, 8, 255, 256, 1 << 16, 1 << 32, (1 << 32) + 1, usize::MAX]),
         false => random.below(4),
-    };
+    }
+}
+
+fn input(random: &mut Random) -> Call {
+    let slot = slot(random);
     let port = match random.one_in(10) {
         true => random.pick(&[32, 33, 63, 64, 255, 256, 287, 0x8000, u16::MAX]),
         false => random.below(32) as u16,
     };
     Call::Input { slot, port, byte: random.byte() }
+}
+
+/// Memory that no call leaves: one slot is unfitted, and the ports and the numbers of outputs on are any.
+pub fn other_memory(random: &mut Random) -> Tables {
+    let mut tables = Tables { stations: STATIONS, ..Tables::new() };
+    tables.stations[random.below(4)] = 0;
+    random.fill(tables.inputs.as_flattened_mut());
+    random.fill(tables.outputs.as_flattened_mut());
+    random.fill(tables.memory.as_flattened_mut());
+    for on in &mut tables.on {
+        let any = random.next() as u16;
+        *on = random.pick(&[0, u16::MAX, any]);
+    }
+    tables
 }
 
 /// A slice for serving: good, damaged in one or more ways, changed at random, or random altogether.
@@ -654,7 +677,7 @@ fn change(random: &mut Random, slice: &mut Vec<u8>) {
 #[cfg(test)]
 mod tests {
     use super::*;
-    use crate::reference::{serve, setup, Tables};
+    use crate::reference::{serve, setup};
 
     fn fitted() -> Tables {
         let mut tables = Tables::new();

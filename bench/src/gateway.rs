@@ -1,12 +1,18 @@
 //! The entries of libllamput.a, as include/llamput.h declares them.
 
-use crate::reference::{Sent, Tables};
+use crate::reference::{Count, Sent, Tables};
 
 #[repr(C)]
 struct LlamputSent {
     number: u8,
     length: usize,
     position: usize,
+}
+
+#[repr(C)]
+struct LlamputCount {
+    number: u8,
+    count: u16,
 }
 
 extern "C" {
@@ -20,6 +26,7 @@ extern "C" {
         inputs: *mut [u8; 32],
         outputs: *mut [u8; 32],
         memory: *mut [u8; 16],
+        on: *mut u16,
         stations: *mut u8,
         want: *const u16,
     ) -> u8;
@@ -34,6 +41,7 @@ extern "C" {
         inputs: *mut [u8; 32],
         outputs: *mut [u8; 32],
         memory: *mut [u8; 16],
+        on: *mut u16,
         stations: *const u8,
         slice: *const u8,
         slice_length: usize,
@@ -51,11 +59,14 @@ extern "C" {
         inputs: *mut [u8; 32],
         outputs: *mut [u8; 32],
         memory: *mut [u8; 16],
+        on: *mut u16,
         stations: *const u8,
         slot: usize,
         port: u16,
         byte: u8,
     ) -> u8;
+
+    fn llamput_outputs_on(on: *const u16, stations: *const u8, slot: usize) -> LlamputCount;
 }
 
 // In each call the areas are fields of one exclusively borrowed struct or borrowed apart from it, so none overlap,
@@ -73,6 +84,7 @@ pub fn setup(tables: &mut Tables, want: &[u16; 4]) -> u8 {
             tables.inputs.as_mut_ptr(),
             tables.outputs.as_mut_ptr(),
             tables.memory.as_mut_ptr(),
+            tables.on.as_mut_ptr(),
             tables.stations.as_mut_ptr(),
             want.as_ptr(),
         )
@@ -92,6 +104,7 @@ pub fn serve(tables: &mut Tables, slice: &[u8], reply: &mut [u8]) -> Sent {
             tables.inputs.as_mut_ptr(),
             tables.outputs.as_mut_ptr(),
             tables.memory.as_mut_ptr(),
+            tables.on.as_mut_ptr(),
             tables.stations.as_ptr(),
             slice.as_ptr(),
             slice.len(),
@@ -114,10 +127,18 @@ pub fn input(tables: &mut Tables, slot: usize, port: u16, byte: u8) -> u8 {
             tables.inputs.as_mut_ptr(),
             tables.outputs.as_mut_ptr(),
             tables.memory.as_mut_ptr(),
+            tables.on.as_mut_ptr(),
             tables.stations.as_ptr(),
             slot,
             port,
             byte,
         )
     }
+}
+
+/// The borrow is exclusive so that a change, which the header rules out, would be seen.
+pub fn outputs_on(tables: &mut Tables, slot: usize) -> Count {
+    let LlamputCount { number, count } =
+        unsafe { llamput_outputs_on(tables.on.as_mut_ptr(), tables.stations.as_mut_ptr(), slot) };
+    Count { number, count }
 }

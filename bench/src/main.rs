@@ -1,5 +1,5 @@
 //! Compares the library llamput with a bytewise server: every answer on 100,000 frames and on a million further calls,
-//! then the time of serving those frames.
+//! the numbers of outputs on from other memory too, then the time of serving those frames.
 //!
 //! The optional argument is the number of timed rounds.
 
@@ -15,39 +15,109 @@ use std::time::Instant;
 
 use frames::{Call, Frames, Random, FRAMES, GREATEST_ROOM, STATIONS};
 use kinds::KINDS;
-use reference::{lrc, Sent, Tables, REPLY_ROOM};
+use reference::{lrc, ones, Count, Sent, Tables, INPUT, REPLY_ROOM};
 
 const CALLS: usize = 1_000_000;
+/// How often the comparison begins with other memory.
+const STARTS: usize = 100;
 const ROUNDS: usize = 301;
 
-/// How often each number from 0 to 14 was returned, and each kind of position.
+/// How often each number from 0 to 14 was returned, to any call and to those that ask for the outputs on, and each kind
+/// of position.
 struct Counts {
     numbers: [usize; 15],
+    asked: [usize; 15],
     kinds: [usize; KINDS],
 }
 
 impl Counts {
     fn new() -> Counts {
-        Counts { numbers: [0; 15], kinds: [0; KINDS] }
+        Counts { numbers: [0; 15], asked: [0; 15], kinds: [0; KINDS] }
+    }
+
+    fn returned(&mut self, number: u8) {
+        self.numbers[usize::from(number)] += 1;
+    }
+
+    fn asked(&mut self, count: Count) {
+        self.returned(count.number);
+        self.asked[usize::from(count.number)] += 1;
     }
 
     fn served(&mut self, slice: &[u8], sent: Sent) {
-        self.numbers[usize::from(sent.number)] += 1;
+        self.returned(sent.number);
         for kind in kinds::kinds(slice, sent.number, sent.position) {
             self.kinds[kind] += 1;
         }
     }
 }
 
+/// Whether a number of outputs on that no box keeps went above 65535, and below 0.
+struct Wraps {
+    above: bool,
+    below: bool,
+}
+
 /// The tables of both sides.
 struct Pair {
     gateway: Tables,
     reference: Tables,
+    /// Whether the tables are those of a box, so that the numbers of outputs on are true; other memory is none until a
+    /// setup.
+    is_box: bool,
 }
 
 impl Pair {
     fn new() -> Pair {
-        Pair { gateway: Tables::new(), reference: Tables::new() }
+        Pair { gateway: Tables::new(), reference: Tables::new(), is_box: true }
+    }
+
+    fn other(memory: Tables) -> Pair {
+        Pair { gateway: memory.clone(), reference: memory, is_box: false }
+    }
+
+    fn agree(&mut self) -> Result<(), String> {
+        self.same_tables()?;
+        match self.is_box {
+            true => self.true_numbers(),
+            false => Ok(()),
+        }
+    }
+
+    /// Each number that is kept is that of the ones in the output ports, 0 for an unfitted slot, and asking gives it.
+    fn true_numbers(&mut self) -> Result<(), String> {
+        for slot in 0..4 {
+            let Tables { outputs, on, stations, .. } = &self.gateway;
+            let (kept, counted) = (on[slot], ones(&outputs[slot]));
+            if kept != counted || stations[slot] == 0 && kept != 0 {
+                return Err(format!("slot {slot} keeps {kept} outputs on, its ports have {counted}"));
+            }
+            self.outputs_on(slot)?;
+        }
+        Ok(())
+    }
+
+    /// Each number has moved as the ones in its output ports have, modulo 65536, and asking gives it.
+    fn moved_numbers(&mut self, before: &Tables, wraps: &mut Wraps) -> Result<(), String> {
+        if self.is_box {
+            return Ok(());
+        }
+        for slot in 0..4 {
+            let (old, new) = (ones(&before.outputs[slot]), ones(&self.gateway.outputs[slot]));
+            let exact = i32::from(before.on[slot]) + i32::from(new) - i32::from(old);
+            wraps.above |= exact > 65_535;
+            wraps.below |= exact < 0;
+            let (kept, moved) = (self.gateway.on[slot], exact.rem_euclid(65_536) as u16);
+            let wanted = match before.stations[slot] {
+                0 => Count { number: INPUT, count: 0 },
+                _ => Count { number: 0, count: moved },
+            };
+            let told = gateway::outputs_on(&mut self.gateway, slot);
+            if kept != moved || told != wanted {
+                return Err(format!("slot {slot} keeps {kept} outputs on and not {moved}, and asking gives {told:?}"));
+            }
+        }
+        self.same_tables()
     }
 
     fn same_tables(&self) -> Result<(), String> {
@@ -69,6 +139,7 @@ impl Pair {
             ("inputs", gateway.inputs == reference.inputs),
             ("outputs", gateway.outputs == reference.outputs),
             ("memory", gateway.memory == reference.memory),
+            ("on", gateway.on == reference.on),
         ];
         same.iter().find(|(_, same)| !same).map_or("stations", |(name, _)| name)
     }
@@ -76,11 +147,12 @@ impl Pair {
     fn setup(&mut self, want: &[u16; 4]) -> Result<u8, String> {
         let gateway = gateway::setup(&mut self.gateway, want);
         let reference = reference::setup(&mut self.reference, want);
+        self.is_box = true;
         let context = || format!("setup {want:?}: gateway {gateway}, reference {reference}");
         if gateway != reference {
             return Err(context());
         }
-        self.same_tables().map_err(|text| format!("{}: {text}", context()))?;
+        self.agree().map_err(|text| format!("{}: {text}", context()))?;
         Ok(reference)
     }
 
@@ -88,6 +160,18 @@ impl Pair {
         let gateway = gateway::input(&mut self.gateway, slot, port, byte);
         let reference = reference::input(&mut self.reference, slot, port, byte);
         let context = || format!("input {slot} {port} {byte}: gateway {gateway}, reference {reference}");
+        if gateway != reference {
+            return Err(context());
+        }
+        self.agree().map_err(|text| format!("{}: {text}", context()))?;
+        Ok(reference)
+    }
+
+    /// Asks both sides, of which neither changes by it.
+    fn outputs_on(&mut self, slot: usize) -> Result<Count, String> {
+        let gateway = gateway::outputs_on(&mut self.gateway, slot);
+        let reference = reference::outputs_on(&self.reference, slot);
+        let context = || format!("outputs on {slot}: gateway {gateway:?}, reference {reference:?}");
         if gateway != reference {
             return Err(context());
         }
@@ -119,7 +203,7 @@ impl Pair {
         if !untouched(gateway, &left) || !untouched(reference, &right) {
             return Err(format!("{}\n  bytes past the length were changed", context()));
         }
-        self.same_tables().map_err(|text| format!("{}\n  {text}", context()))?;
+        self.agree().map_err(|text| format!("{}\n  {text}", context()))?;
         Ok(reference)
     }
 }
@@ -169,10 +253,9 @@ fn compare_calls() -> Result<Counts, String> {
     for index in 0..CALLS {
         let call = frames::call(&mut random, &pair.reference.stations);
         let made = match call {
-            Call::Setup(want) => pair.setup(&want).map(|number| counts.numbers[usize::from(number)] += 1),
-            Call::Input { slot, port, byte } => {
-                pair.input(slot, port, byte).map(|number| counts.numbers[usize::from(number)] += 1)
-            }
+            Call::Setup(want) => pair.setup(&want).map(|number| counts.returned(number)),
+            Call::Input { slot, port, byte } => pair.input(slot, port, byte).map(|number| counts.returned(number)),
+            Call::OutputsOn(slot) => pair.outputs_on(slot).map(|count| counts.asked(count)),
             Call::Serve { slice, room } => {
                 pair.serve(&slice, room, &mut random).map(|sent| counts.served(&slice, sent))
             }
@@ -182,9 +265,63 @@ fn compare_calls() -> Result<Counts, String> {
     if let Some(number) = (0..=14).find(|&number| counts.numbers[number] == 0) {
         return Err(format!("no call reaches refusal {number}"));
     }
+    if let Some(number) = [0, INPUT].into_iter().find(|&number| counts.asked[usize::from(number)] == 0) {
+        return Err(format!("no call that asks for the outputs on gets {number}"));
+    }
     match (0..KINDS).find(|&kind| counts.kinds[kind] == 0) {
         Some(kind) => Err(format!("no call reaches the position {}", kinds::name(kind))),
         None => Ok(counts),
+    }
+}
+
+/// Turns the outputs of each arm on and off by signals and by ports, so that each number from 0 to 256 comes up.
+fn compare_every_number() -> Result<(), String> {
+    let mut random = Random::new(3);
+    let mut pair = Pair::new();
+    pair.setup(&STATIONS.map(u16::from))?;
+    let writes = (0..256)
+        .map(|signal| (format!("SNOB {signal} 1"), signal + 1))
+        .chain((0..32).map(|port| (format!("SNOD {port} 0"), 256 - 8 * (port + 1))))
+        .chain((0..32).map(|port| (format!("SNOD {port} 255"), 8 * (port + 1))))
+        .chain((0..256).map(|signal| (format!("SNOB {signal} 0"), 256 - (signal + 1))));
+    for (body, count) in writes {
+        for (slot, station) in STATIONS.into_iter().enumerate() {
+            let slice = frames::frame(format!("{station} {body}").as_bytes());
+            // The second time nothing changes.
+            for _ in 0..2 {
+                pair.serve(&slice, REPLY_ROOM, &mut random)?;
+                let told = pair.outputs_on(slot)?;
+                if told != (Count { number: 0, count }) {
+                    return Err(format!("{station} {body}: {count} outputs are on, and asking gives {told:?}"));
+                }
+            }
+        }
+    }
+    Ok(())
+}
+
+/// Makes calls from memory that no call leaves, each time up to a setup.
+fn compare_other_memory() -> Result<(), String> {
+    let mut random = Random::new(4);
+    let mut wraps = Wraps { above: false, below: false };
+    for start in 0..STARTS {
+        let mut pair = Pair::other(frames::other_memory(&mut random));
+        while !pair.is_box {
+            let before = pair.gateway.clone();
+            let made = match frames::call(&mut random, &before.stations) {
+                Call::Setup(want) => pair.setup(&want).map(|_| ()),
+                Call::Input { slot, port, byte } => pair.input(slot, port, byte).map(|_| ()),
+                // Every slot is asked below; the reference would count and not tell the number kept.
+                Call::OutputsOn(_) => Ok(()),
+                Call::Serve { slice, room } => pair.serve(&slice, room, &mut random).map(|_| ()),
+            };
+            made.and_then(|()| pair.moved_numbers(&before, &mut wraps))
+                .map_err(|text| format!("other memory, start {start}: {text}"))?;
+        }
+    }
+    match wraps {
+        Wraps { above: true, below: true } => Ok(()),
+        _ => Err("from other memory no number goes above 65535, or none below 0".to_string()),
     }
 }
 
@@ -260,6 +397,8 @@ fn run(rounds: usize) -> Result<(), String> {
     let frames = frames::benchmark_set();
     let set = compare_frames(&frames)?;
     let stream = compare_calls()?;
+    compare_every_number()?;
+    compare_other_memory()?;
     println!("{:<35}{:>10}{:>10}", "number", "frames", "calls");
     for (number, (set, stream)) in set.numbers.iter().zip(&stream.numbers).enumerate() {
         println!("{number:<35}{set:>10}{stream:>10}");
@@ -268,6 +407,8 @@ fn run(rounds: usize) -> Result<(), String> {
     for (kind, (set, stream)) in set.kinds.iter().zip(&stream.kinds).enumerate() {
         println!("{:<35}{set:>10}{stream:>10}", kinds::name(kind));
     }
+    let [answered, refused] = [0, INPUT].map(|number| stream.asked[usize::from(number)]);
+    println!("{answered} of the calls ask for the outputs on and get 0, {refused} get 14");
     println!("gateway and reference agree on {FRAMES} frames and {CALLS} calls\n");
     time(&frames, rounds);
     Ok(())

@@ -1,4 +1,5 @@
-//! A bytewise server of the base commands as requests E2, E6 and E9 leave them, written from documents 01 and 02 alone.
+//! A bytewise server of the base commands as requests E2, E6, E7 and E9 leave them, written from documents 01 and 02
+//! alone.
 
 pub const ROOM: u8 = 1;
 pub const LENGTH: u8 = 2;
@@ -33,6 +34,8 @@ pub struct Tables {
     pub inputs: [[u8; 32]; 4],
     pub outputs: [[u8; 32]; 4],
     pub memory: [[u8; 16]; 4],
+    /// How many outputs are on.
+    pub on: [u16; 4],
     pub stations: [u8; 4],
 }
 
@@ -48,6 +51,7 @@ impl Tables {
             inputs: [[0; 32]; 4],
             outputs: [[0; 32]; 4],
             memory: [[0; 16]; 4],
+            on: [0; 4],
             stations: [0; 4],
         }
     }
@@ -60,6 +64,13 @@ pub struct Sent {
     pub number: u8,
     pub length: usize,
     pub position: usize,
+}
+
+/// What asking for the outputs on returns: the refusal number, or 0, and how many are on, 0 where it refuses.
+#[derive(Clone, Copy, Debug, PartialEq, Eq)]
+pub struct Count {
+    pub number: u8,
+    pub count: u16,
 }
 
 /// Sets up a new box. Returns 0 or SETUP; then no slot is fitted.
@@ -81,6 +92,19 @@ pub fn input(tables: &mut Tables, slot: usize, port: u16, byte: u8) -> u8 {
     }
     tables.inputs[slot][usize::from(port)] = byte;
     0
+}
+
+/// How many outputs of a slot's arm are on, or INPUT. It is counted over the ports, whatever number is kept.
+pub fn outputs_on(tables: &Tables, slot: usize) -> Count {
+    if slot > 3 || tables.stations[slot] == 0 {
+        return Count { number: INPUT, count: 0 };
+    }
+    Count { number: 0, count: ones(&tables.outputs[slot]) }
+}
+
+/// The ones in the bytes of ports.
+pub fn ones(ports: &[u8]) -> u16 {
+    ports.iter().map(|port| port.count_ones() as u16).sum()
 }
 
 /// Serves one slice and writes the reply, if there is one, at the start of the area.
@@ -244,16 +268,39 @@ fn perform(tables: &mut Tables, slot: usize, body: &[u8], reply: &mut Reply) -> 
         b"LNIB" => load_signal(&tables.inputs[slot], 0, fields, reply)?,
         b"LNID" => load_port(&tables.inputs[slot], fields, reply)?,
         b"LNOB" => load_signal(&tables.outputs[slot], 0, fields, reply)?,
-        b"SNOB" => store_signal(&mut tables.outputs[slot], 0, fields, reply)?,
+        b"SNOB" => {
+            let written = store_signal(&mut tables.outputs[slot], 0, fields, reply)?;
+            written.keep(&mut tables.on[slot]);
+        }
         b"LNOD" => load_port(&tables.outputs[slot], fields, reply)?,
-        b"SNOD" => store_port(&mut tables.outputs[slot], fields, reply)?,
+        b"SNOD" => {
+            let written = store_port(&mut tables.outputs[slot], fields, reply)?;
+            written.keep(&mut tables.on[slot]);
+        }
         b"LNBB" => load_signal(&tables.memory[slot], 256, fields, reply)?,
-        b"SNBB" => store_signal(&mut tables.memory[slot], 256, fields, reply)?,
+        b"SNBB" => {
+            store_signal(&mut tables.memory[slot], 256, fields, reply)?;
+        }
         b"LNBD" => load_port(&tables.memory[slot], fields, reply)?,
-        b"SNBD" => store_port(&mut tables.memory[slot], fields, reply)?,
+        b"SNBD" => {
+            store_port(&mut tables.memory[slot], fields, reply)?;
+        }
         _ => return Err(COMMAND),
     }
     Ok(())
+}
+
+/// The byte of a port before and after a write.
+struct Written {
+    old: u8,
+    new: u8,
+}
+
+impl Written {
+    /// Changes the number of outputs that are on by the difference.
+    fn keep(self, on: &mut u16) {
+        *on = on.wrapping_add(ones(&[self.new])).wrapping_sub(ones(&[self.old]));
+    }
 }
 
 /// Signals are counted from the first; a number below it wraps round and is past the ports.
@@ -267,19 +314,20 @@ fn load_signal(ports: &[u8], first: usize, mut fields: Fields, reply: &mut Reply
 }
 
 #[inline(always)]
-fn store_signal(ports: &mut [u8], first: usize, mut fields: Fields, reply: &mut Reply) -> Result<(), u8> {
+fn store_signal(ports: &mut [u8], first: usize, mut fields: Fields, reply: &mut Reply) -> Result<Written, u8> {
     let signal = fields.number()?.wrapping_sub(first);
     let data = fields.whole()?;
     fields.end()?;
     let port = ports.get_mut(signal / 8).ok_or(NUMBER)?;
     let bit = 1 << (signal % 8);
+    let old = *port;
     match data {
         0 => *port &= !bit,
         1 => *port |= bit,
         _ => return Err(VALUE),
     }
     reply.done();
-    Ok(())
+    Ok(Written { old, new: *port })
 }
 
 #[inline(always)]
@@ -292,14 +340,15 @@ fn load_port(ports: &[u8], mut fields: Fields, reply: &mut Reply) -> Result<(), 
 }
 
 #[inline(always)]
-fn store_port(ports: &mut [u8], mut fields: Fields, reply: &mut Reply) -> Result<(), u8> {
+fn store_port(ports: &mut [u8], mut fields: Fields, reply: &mut Reply) -> Result<Written, u8> {
     let number = fields.number()?;
     let data = fields.whole()?;
     fields.end()?;
     let port = ports.get_mut(number).ok_or(NUMBER)?;
+    let old = *port;
     *port = u8::try_from(data).map_err(|_| VALUE)?;
     reply.done();
-    Ok(())
+    Ok(Written { old, new: *port })
 }
 
 /// What is still to be read: the fields, each behind an SP, then ETX.
@@ -543,6 +592,7 @@ impl Reply<'_> {
 #[cfg(test)]
 mod tests {
     use super::*;
+    use crate::frames::frame;
     use std::fs;
     use std::path::Path;
 
@@ -623,11 +673,7 @@ mod tests {
     fn wrong_at(text: &[u8]) -> (u8, usize) {
         let mut tables = Tables::new();
         assert_eq!(setup(&mut tables, &[1, 0, 42, 0]), 0);
-        let mut slice = vec![STX];
-        slice.extend_from_slice(text);
-        slice.push(ETX);
-        slice.push(lrc(&slice[1..]));
-        let sent = serve(&mut tables, &slice, &mut [0; REPLY_ROOM]);
+        let sent = serve(&mut tables, &frame(text), &mut [0; REPLY_ROOM]);
         (sent.number, sent.position)
     }
 
@@ -722,5 +768,83 @@ mod tests {
             assert_eq!(setup(&mut tables, &want), SETUP);
             assert!(tables == Tables::new());
         }
+    }
+
+    /// A box with stations 1 and 42, where all outputs of station 1 are on.
+    fn all_on() -> Tables {
+        let mut tables = Tables::new();
+        assert_eq!(setup(&mut tables, &[1, 0, 42, 0]), 0);
+        for port in 0..32 {
+            let slice = frame(format!("1 SNOD {port} 255").as_bytes());
+            assert_eq!(serve(&mut tables, &slice, &mut [0; REPLY_ROOM]).number, 0);
+        }
+        tables
+    }
+
+    /// The number is kept, and asking gives it.
+    fn assert_on(tables: &Tables, slot: usize, count: u16, text: &str) {
+        assert_eq!(tables.on[slot], count, "{text}");
+        assert_eq!(outputs_on(tables, slot), Count { number: 0, count }, "{text}");
+    }
+
+    #[test]
+    fn outputs_on_after_calls() {
+        let mut tables = all_on();
+        assert_on(&tables, 0, 256, "all on");
+        assert_on(&tables, 2, 0, "all on");
+        // The refusal number, and the outputs of stations 1 and 42 that are then on.
+        let cases = [
+            ("1 SNOB 255 0", 0, 255, 0),
+            ("1 SNOB 255 0", 0, 255, 0),
+            ("1 SNOD 31 127", 0, 255, 0),
+            ("1 SNOD 0 255", 0, 255, 0),
+            ("1 SNOB 255 1", 0, 256, 0),
+            ("1 SNOB 255 1", 0, 256, 0),
+            ("1 SNOD 7 0", 0, 248, 0),
+            ("1 SNOD 7 165", 0, 252, 0),
+            ("1 SNOD 7 90", 0, 252, 0),
+            ("1 SNOB 57 0", 0, 251, 0),
+            ("1 SNOB 56 1", 0, 252, 0),
+            // Nothing else moves the number.
+            ("1 LNOD 7", 0, 252, 0),
+            ("1 LNOB 56", 0, 252, 0),
+            ("1 SNBD 7 255", 0, 252, 0),
+            ("1 SNBB 256 1", 0, 252, 0),
+            ("1 SNBB 256 0", 0, 252, 0),
+            ("1 SND 0 9999", 0, 252, 0),
+            ("9 SNOD 0 0", ABSENT, 252, 0),
+            ("1 SNOX 0 0", COMMAND, 252, 0),
+            ("1 SNOD 0 0 0", SHAPE, 252, 0),
+            ("1 SNOB 256 0", NUMBER, 252, 0),
+            ("1 SNOD 32 0", NUMBER, 252, 0),
+            ("1 SNOB 0 2", VALUE, 252, 0),
+            ("1 SNOD 0 256", VALUE, 252, 0),
+            ("42 SNOB 8 1", 0, 252, 1),
+            ("42 SNOD 1 3", 0, 252, 2),
+        ];
+        for (text, number, first, third) in cases {
+            let sent = serve(&mut tables, &frame(text.as_bytes()), &mut [0; REPLY_ROOM]);
+            assert_eq!(sent.number, number, "{text}");
+            assert_on(&tables, 0, first, text);
+            assert_on(&tables, 2, third, text);
+        }
+        assert_eq!(input(&mut tables, 0, 7, 255), 0);
+        assert_on(&tables, 0, 252, "input");
+    }
+
+    #[test]
+    fn outputs_on_refused() {
+        let refused = Count { number: INPUT, count: 0 };
+        let mut tables = all_on();
+        for slot in [1, 3, 4, 5, 256, 1 << 32, usize::MAX] {
+            assert_eq!(outputs_on(&tables, slot), refused, "{slot}");
+        }
+        assert_eq!(setup(&mut tables, &[1, 1, 0, 0]), SETUP);
+        for slot in 0..4 {
+            assert_eq!(outputs_on(&tables, slot), refused, "{slot}");
+        }
+        let mut tables = all_on();
+        assert_eq!(setup(&mut tables, &[1, 0, 42, 0]), 0);
+        assert_on(&tables, 0, 0, "set up again");
     }
 }
