@@ -1,9 +1,10 @@
 // The entries of libllamput.a, which `rt staticlib llamput` writes for programs on x86-64 Linux.
 //
 // The caller owns all memory. No two areas overlap. No pointer is null; one to an area of length 0 may be any other.
-// The tables of a box come in the order timers, registers, x, y, z, w, inputs, outputs, memory, on. The first index of each
-// is the slot. Timers, x, y, z and w are in hundredths; inputs, outputs and memory are ports of eight bits; on has the number
-// of outputs that are on, which setup and serving keep. stations has the station of each slot, 0 where it is unfitted.
+// The tables of a box come in the order timers, registers, x, y, z, w, inputs, outputs, memory, on. The first index of
+// each is the slot. Timers, x, y, z and w are in hundredths; inputs, outputs and memory are ports of eight bits; on is the
+// number of outputs that are on, which setup and serving keep. stations has the station of each slot, 0 where it is
+// unfitted.
 //
 // Refusal numbers, in the order checked; 0 is no refusal:
 //   1 ROOM     the reply area is under 64 bytes          8 ABSENT   no fitted arm has the station
