@@ -1,9 +1,9 @@
 // Reads lines from standard input, each the hexadecimal capitals of one slice, and answers each by a line.
 // Both come and go in blocks, so that any number of lines is answered in the same memory. What is done
 // between reading and writing is the crate `stream`.
-use gateway::setup::setup;
 use libc::STDIN_FILENO;
 use libc::STDOUT_FILENO;
+use slots::setup::setup;
 use stream::input::Progress;
 use stream::input::answer_last;
 use stream::input::front;

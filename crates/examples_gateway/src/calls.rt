@@ -7,14 +7,14 @@ use crate::steps::Step;
 use crate::steps::put_label;
 use crate::steps::step_of;
 use commands::request::Port;
-use gateway::count::outputs_on;
-use gateway::input::input;
 use gateway::serve::serve;
-use gateway::setup::setup;
 use print::put;
 use print::put_two;
 use print::put_whole;
 use print::put_written;
+use slots::count::outputs_on;
+use slots::input::input;
+use slots::setup::setup;
 
 fn put_station(s: u8) {
     put(b" ");

@@ -8,12 +8,12 @@ use lib.Dec.{ltb, eqb}
 use lib.ListN.{length, getD, take}
 use Rattle.frame.proofs.Writing.{written}
 use Rattle.model.specs.Call.{Call, serve, input, outputsOn, Answer, noReply, theCount}
-use Rattle.model.specs.Box.{Box, Decision, setup, isFitted, decide, performTables, perform, respond, after, answer, run}
+use Rattle.model.specs.Box.{Box, box, Decision, setup, isFitted, decide, performTables, perform, respond, after, answer, run}
 use Rattle.model.specs.Addressed.{isFor, answersTo, armOf}
 use Rattle.model.specs.Demand3.{Isolated}
 use Rattle.model.proofs.Laws.{cond-has}
 use Rattle.model.proofs.Isolation.{demand3}
-use Rattle.gateway.specs.Entries.{box, asCount}
+use Rattle.slots.specs.Entries.{asCount}
 use Rattle.gateway.specs.History.{Made, served, inputMade, countMade, callOf, seen, tablesAfter, Promised, History, last, seenBy, CodeIsolated}
 
 -- ---- one call

@@ -9,11 +9,12 @@ use lib.ListN.{length, getD, take}
 use Rattle.harl.specs.declared.message.Sent.{Sent}
 use Rattle.tables.specs.Tables.{Tables}
 use Rattle.model.specs.Call.{Call, serve, input, outputsOn, Answer, noReply, theCount}
-use Rattle.model.specs.Box.{Box}
+use Rattle.model.specs.Box.{Box, box}
 use Rattle.model.specs.Lone.{zeroArm, runLone, answersLone}
 use Rattle.model.specs.Addressed.{Fitted, isFor, eventsFor, armOf}
-use Rattle.gateway.specs.declared.count.Count.{Count}
-use Rattle.gateway.specs.Entries.{box, SetUp, Served, InputSet, Counted}
+use Rattle.slots.specs.declared.count.Count.{Count}
+use Rattle.slots.specs.Entries.{SetUp, InputSet, Counted}
+use Rattle.gateway.specs.Entries.{Served}
 
 -- a call that was made. served: the slice, the reply area before, what was returned, the tables and the area after.
 -- inputMade: slot, port, byte, the number that was returned, the tables after. countMade: slot, what was returned

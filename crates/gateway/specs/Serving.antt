@@ -9,8 +9,8 @@ use Rattle.harl.specs.Message.{Wrote}
 use Rattle.tables.specs.Tables.{Tables}
 use Rattle.gateway.specs.declared.serve.Found.{Found}
 use Rattle.gateway.specs.declared.serve.Found.the-variants as found
-use Rattle.model.specs.Box.{Slot, nowhere, at, slotOf, decideBody, performTables, respond}
-use Rattle.gateway.specs.Entries.{box, written}
+use Rattle.model.specs.Box.{box, Slot, nowhere, at, slotOf, decideBody, performTables, respond}
+use Rattle.gateway.specs.Entries.{written}
 
 abbrev pub asFound : Slot → Found
 asFound nowhere = found.Nowhere

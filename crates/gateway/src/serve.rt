@@ -17,7 +17,8 @@ ghost use Rattle.text.specs.Put.{PutAt};
 ghost use Rattle.frame.specs.Frame.{readFrame, frameOf};
 ghost use Rattle.bodies.specs.Reply.{performedText, refusalText};
 ghost use Rattle.tables.specs.Tables.{Tables, tables};
-ghost use Rattle.gateway.specs.Entries.{Served, box};
+ghost use Rattle.model.specs.Box.{box};
+ghost use Rattle.gateway.specs.Entries.{Served};
 ghost use Rattle.gateway.specs.Serving.{BodyServed, foundIn};
 
 // Where a station is.

@@ -1,7 +1,8 @@
 // Input calls, exported.
 use commands::request::Port;
 ghost use Rattle.tables.specs.Tables.{tables};
-ghost use Rattle.gateway.specs.Entries.{InputSet, box};
+ghost use Rattle.model.specs.Box.{box};
+ghost use Rattle.slots.specs.Entries.{InputSet};
 
 // Puts a byte into an input port.
 #[no_mangle]
@@ -23,7 +24,7 @@ pub extern "C" fn llamput_input(
 ) -> u8
     ensures { λ r. ⌜ InputSet (box (now (stations .entry)) (tables (now (timers .entry)) (now (registers .entry)) (now (x .entry)) (now (y .entry)) (now (z .entry)) (now (w .entry)) (now (inputs .entry)) (now (outputs .entry)) (now (memory .entry)) (now (on .entry)))) slot port byte r (tables (now (timers .exit)) (now (registers .exit)) (now (x .exit)) (now (y .exit)) (now (z .exit)) (now (w .exit)) (now (inputs .exit)) (now (outputs .exit)) (now (memory .exit)) (now (on .exit))) ⌝ }
 {
-    gateway::input::input(
+    slots::input::input(
         timers,
         registers,
         x,

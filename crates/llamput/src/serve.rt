@@ -1,7 +1,8 @@
 // Serving, exported.
 use harl::message::Sent;
 ghost use Rattle.tables.specs.Tables.{tables};
-ghost use Rattle.gateway.specs.Entries.{Served, box};
+ghost use Rattle.model.specs.Box.{box};
+ghost use Rattle.gateway.specs.Entries.{Served};
 
 // Serves a slice.
 #[no_mangle]

@@ -1,6 +1,6 @@
 // Setup, exported.
 ghost use Rattle.tables.specs.Tables.{tables};
-ghost use Rattle.gateway.specs.Entries.{SetUp};
+ghost use Rattle.slots.specs.Entries.{SetUp};
 
 // Sets up a new box in lent memory.
 #[no_mangle]
@@ -20,7 +20,7 @@ pub extern "C" fn llamput_setup(
 ) -> u8
     ensures { λ r. ⌜ SetUp (now (want .entry)) r (now (stations .exit)) (tables (now (timers .exit)) (now (registers .exit)) (now (x .exit)) (now (y .exit)) (now (z .exit)) (now (w .exit)) (now (inputs .exit)) (now (outputs .exit)) (now (memory .exit)) (now (on .exit))) ⌝ }
 {
-    gateway::setup::setup(
+    slots::setup::setup(
         timers,
         registers,
         x,

@@ -22,6 +22,9 @@ pub record Box : Type 0 where
   pub stations : List ℕ
   pub tables : Tables
 
+abbrev pub box : List ℕ → Tables → Box
+box st t = record { stations = st; tables = t }
+
 -- ---- setup
 
 -- the box that setup yields, with every table zero; refused, with no arm fitted

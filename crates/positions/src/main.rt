@@ -1,7 +1,6 @@
 // Serves the lines of standard input as `cell` does, and prints behind each answer the position in the slice that
 // comes with it (document 02, E9). The stored output did not come from this program.
 use gateway::serve::serve;
-use gateway::setup::setup;
 use libc::STDIN_FILENO;
 use lines::reader::Line;
 use lines::reader::read_line;
@@ -9,6 +8,7 @@ use lines::writer::put_answer;
 use print::front;
 use print::put;
 use print::put_position;
+use slots::setup::setup;
 
 // Serves a line, and prints its answer as `cell` does, with the position before its LF. A line that is no call has
 // none.

@@ -15,8 +15,7 @@ use Rattle.text.specs.Scan.{until, before}
 use Rattle.text.proofs.Laws.{rest}
 use Rattle.frame.proofs.Writing.{written}
 use Rattle.tables.specs.Tables.{Tables}
-use Rattle.model.specs.Box.{Box, after, perform}
-use Rattle.gateway.specs.Entries.{box}
+use Rattle.model.specs.Box.{Box, box, after, perform}
 use Rattle.lines.specs.Lines.{isCall, sliceOf}
 use Rattle.lines.proofs.Laws.{put-behind}
 use Rattle.stream.specs.declared.input.Progress.{Progress}

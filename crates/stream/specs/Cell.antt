@@ -6,8 +6,7 @@ use mathlib.Core.List.{List, [], _∷_, _++_}
 use lib.ListN.{length, take}
 use lib.Dec.{eqb}
 use Rattle.tables.specs.Tables.{Tables}
-use Rattle.model.specs.Box.{Box}
-use Rattle.gateway.specs.Entries.{box}
+use Rattle.model.specs.Box.{Box, box}
 use Rattle.stream.specs.declared.input.Progress.{Progress}
 use Rattle.stream.specs.Answers.{lineAnswer, boxAfter}
 

@@ -14,8 +14,8 @@ use Rattle.harl.proofs.Laws.{wrote-none}
 use Rattle.tables.specs.Tables.{Tables}
 use Rattle.gateway.specs.declared.serve.Found.the-variants as found
 use Rattle.model.specs.Call.{serve}
-use Rattle.model.specs.Box.{Slot, nowhere, at, slotOf, unanswered, decideBody, decide, perform, respond, after, answer}
-use Rattle.gateway.specs.Entries.{box, Served}
+use Rattle.model.specs.Box.{box, Slot, nowhere, at, slotOf, unanswered, decideBody, decide, perform, respond, after, answer}
+use Rattle.gateway.specs.Entries.{Served}
 use Rattle.gateway.specs.Serving.{asFound, foundIn, BodyServed}
 use Rattle.model.proofs.Slots.{slot-at}
 use Rattle.gateway.proofs.serve.serve.Statement.{statement}

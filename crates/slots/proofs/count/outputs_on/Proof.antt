@@ -4,8 +4,8 @@ use borrow.Author.Needs.{needs}
 use borrow.Author.Tests.{not-true, not-false}
 use Rattle.model.specs.Box.{isFitted, decide, respond, answer}
 use Rattle.model.proofs.Slots.{fitted-is}
-use Rattle.gateway.proofs.count.outputs_on.Statement.{statement}
-use Rattle.gateway.proofs.count.outputs_on.Tie as tie
+use Rattle.slots.proofs.count.outputs_on.Statement.{statement}
+use Rattle.slots.proofs.count.outputs_on.Tie as tie
 
 -- the test, where it is passed and where it is not
 fitted : (c : tie.Else1) → isFitted (c .before .before .args .stations .now) (c .before .before .args .slot) ≡ true

@@ -1,8 +1,8 @@
 use borrow.Author.Needs.{needs}
 use borrow.Author.Tests.{lt-ltb, le-ltb}
 use Rattle.model.specs.Box.{isFitted}
-use Rattle.gateway.proofs.slot.is_fitted.Statement.{statement}
-use Rattle.gateway.proofs.slot.is_fitted.Tie as tie
+use Rattle.slots.proofs.slot.is_fitted.Statement.{statement}
+use Rattle.slots.proofs.slot.is_fitted.Tie as tie
 
 returns : tie.Need-returns
 unfolding isFitted

@@ -8,9 +8,9 @@ use Rattle.tables.specs.Tables.{withInputs, set2}
 use Rattle.model.specs.Call.{input}
 use Rattle.model.specs.Box.{Box, unanswered, inputSet, isFitted, decide, perform, respond, after, answer}
 use Rattle.model.proofs.Slots.{fitted-is}
-use Rattle.gateway.specs.Entries.{InputSet}
-use Rattle.gateway.proofs.input.input.Statement.{statement}
-use Rattle.gateway.proofs.input.input.Tie as tie
+use Rattle.slots.specs.Entries.{InputSet}
+use Rattle.slots.proofs.input.input.Statement.{statement}
+use Rattle.slots.proofs.input.input.Tie as tie
 
 turns-away : (b : Box) (k p v : ℕ) → decide (b .stations) (input k p v) ≡ unanswered 14 0 → InputSet b k p v 14 (b .tables)
 unfolding perform respond after answer

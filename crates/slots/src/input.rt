@@ -2,7 +2,8 @@
 use crate::slot::is_fitted;
 use commands::request::Port;
 ghost use Rattle.tables.specs.Tables.{tables};
-ghost use Rattle.gateway.specs.Entries.{InputSet, box};
+ghost use Rattle.model.specs.Box.{box};
+ghost use Rattle.slots.specs.Entries.{InputSet};
 
 // Puts a byte into an input port of slot's arm. Refused, with number 14: a slot above 3 or unfitted, or a
 // port above 31.

@@ -3,7 +3,7 @@ ghost use mathlib.Core.Path.{_≡_};
 ghost use lib.ListN.{drop};
 ghost use Rattle.tables.specs.Tables.{tables, zeros};
 ghost use Rattle.model.specs.Setup.{tooHigh, contains, repeats, setupNumber};
-ghost use Rattle.gateway.specs.Entries.{SetUp};
+ghost use Rattle.slots.specs.Entries.{SetUp};
 
 // Whether one of the slots from `from` on is given the station s.
 fn is_contained(want: [u16; 4], s: u16, from: usize) -> bool

@@ -8,8 +8,8 @@ use mir.Syntax.{w16}
 use lib.ListN.{getD}
 use Rattle.model.specs.Box.{setup}
 use Rattle.model.proofs.Setups.{accepted-small, accepted-stations, refused-stations}
-use Rattle.gateway.proofs.setup.setup.Statement.{statement}
-use Rattle.gateway.proofs.setup.setup.Tie as tie
+use Rattle.slots.proofs.setup.setup.Statement.{statement}
+use Rattle.slots.proofs.setup.setup.Tie as tie
 
 -- where setup is accepted, a station fits a byte
 fits : (c : tie.Else1) (k : ℕ) → getD (c .before .before .before .before .before .before .before .before .before .before .before .before .before .args .t12) k 0 ≤ 99

@@ -1,8 +1,8 @@
 use mathlib.Core.Path.{sym}
 use borrow.Author.Needs.{needs}
 use Rattle.model.specs.Setup.{setupNumber}
-use Rattle.gateway.proofs.setup.judge_setup.Statement.{statement}
-use Rattle.gateway.proofs.setup.judge_setup.Tie as tie
+use Rattle.slots.proofs.setup.judge_setup.Statement.{statement}
+use Rattle.slots.proofs.setup.judge_setup.Tie as tie
 
 is-too-high-requires : tie.Need-is-too-high-requires
 is-too-high-requires c κs = search needs

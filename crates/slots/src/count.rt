@@ -1,6 +1,6 @@
 // The number of outputs that are on, asked by slot.
 use crate::slot::is_fitted;
-ghost use Rattle.gateway.specs.Entries.{Counted};
+ghost use Rattle.slots.specs.Entries.{Counted};
 
 // The refusal number, or 0, and the number asked for.
 #[repr(C)]

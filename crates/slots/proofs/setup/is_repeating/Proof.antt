@@ -10,8 +10,8 @@ use mir.Syntax.{w16}
 use lib.ListN.{length, drop}
 use Rattle.text.proofs.Laws.{here, over}
 use Rattle.model.specs.Setup.{repeats}
-use Rattle.gateway.proofs.setup.is_repeating.Statement.{statement}
-use Rattle.gateway.proofs.setup.is_repeating.Tie as tie
+use Rattle.slots.proofs.setup.is_repeating.Statement.{statement}
+use Rattle.slots.proofs.setup.is_repeating.Tie as tie
 
 abbrev Inv-loop : tie.InvT-loop
 Inv-loop want i₀ i = (length want ≡ 4) × (repeats want ≡ repeats (drop i want))

@@ -1,7 +1,7 @@
 use mathlib.Core.Path.{refl}
 use Rattle.tables.specs.Tables.{zeros}
-use Rattle.gateway.proofs.setup.clear.Statement.{statement}
-use Rattle.gateway.proofs.setup.clear.Tie as tie
+use Rattle.slots.proofs.setup.clear.Statement.{statement}
+use Rattle.slots.proofs.setup.clear.Tie as tie
 
 returns : tie.Need-returns
 unfolding zeros
