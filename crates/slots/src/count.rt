@@ -20,8 +20,6 @@ pub fn outputs_on(on: &[u16; 4], stations: &[u8; 4], slot: usize) -> Count
             count: 0,
         };
     }
-    Count {
-        number: 0,
-        count: on[slot],
-    }
+    let count = on[slot];
+    Count { number: 0, count }
 }

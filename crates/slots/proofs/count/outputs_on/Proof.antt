@@ -18,15 +18,15 @@ returns : tie.Need-returns
 unfolding decide respond answer
 returns c t = rw (unfitted c)
 
-mul-t6 : tie.Need-mul-t6
-mul-t6 c = let l = fitted-is _ _ (fitted c) in search needs
+mul-count : tie.Need-mul-count
+mul-count c = let l = fitted-is _ _ (fitted c) in search needs
 
-element-copy-out-t9 : tie.Need-element-copy-out-t9
-element-copy-out-t9 c = let l = fitted-is _ _ (fitted c) in search needs
+element-copy-out-count : tie.Need-element-copy-out-count
+element-copy-out-count c = let l = fitted-is _ _ (fitted c) in search needs
 
 returns-2 : tie.Need-returns-2
 unfolding decide respond answer
 returns-2 c t = rw (fitted (c .before))
 
 pub outputs-on-spec : {M : Type 1} → statement M
-outputs-on-spec = tie.close (tie.spec (λ c κs. search needs) returns mul-t6 element-copy-out-t9 returns-2)
+outputs-on-spec = tie.close (tie.spec (λ c κs. search needs) returns mul-count element-copy-out-count returns-2)
