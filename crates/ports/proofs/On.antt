@@ -1,6 +1,6 @@
 -- The number kept beside ports stays the ones counted over them.
-use Prim.Native.Nat.{ℕ, zero, suc, _+_, _-_, _≤_, _<_}
-use mathlib.Core.Path.{_≡_, refl}
+use Prim.Native.Nat.{ℕ, zero, suc, _+_, _-_, _%_, _≤_, _<_}
+use mathlib.Core.Path.{_≡_, refl, ap, _∙_}
 use mathlib.Core.List.{List}
 use native.Mathlib.Omega.{arith}
 use native.Mathlib.Decide.{ℕ-discrete}
@@ -10,15 +10,12 @@ use lib.Count.{onesIn, ones, ones-le}
 use lib.Dec.{eqb}
 use lib.ListN.{length, getD, set}
 use lib.Seq.{getD-set-same, getD-set-other}
-use Rattle.ports.specs.Bits.{bit}
-use Rattle.ports.specs.On.{signalsOn, moved, OnesAreBits, EightAPort, MovedTrue}
+use Rattle.ports.specs.On.{signalsOn, bitsOn, OnesAreBits, EightAPort, MovedTrue}
 use Rattle.ports.proofs.Laws.{all-at}
 
 pub ones-are-bits : OnesAreBits
 unfolding ones onesIn
-ones-are-bits b h =
-    eqb-true _ _
-    (all-at 256 (λ b. eqb (ones b) (bit b 0 + bit b 1 + bit b 2 + bit b 3 + bit b 4 + bit b 5 + bit b 6 + bit b 7)) refl b h)
+ones-are-bits b h = eqb-true (ones b) (bitsOn b) (all-at 256 (λ b. eqb (ones b) (bitsOn b)) refl b h)
 
 pub eight-a-port : EightAPort
 unfolding signalsOn
@@ -48,4 +45,4 @@ pub moved-true : MovedTrue
 moved-true n ports p v h l small =
     let next : ℕ = signalsOn n (set ports p v) in
     let e : signalsOn n ports + ones v + 65536 - ones (getD ports p 0) ≡ next + 65536 = omega (arith, balance ports p v n h l) in
-    rw (e, add-mod-right next 65536, mod-eq-of-lt small)
+    ap (λ x. x % 65536) e ∙ add-mod-right next 65536 ∙ mod-eq-of-lt small

@@ -19,8 +19,11 @@ moved total before after = (total + ones after + 65536 - ones before) % 65536
 -- ---- what these must meet (proved in proofs/On.antt)
 
 -- the ones of a byte are its bits that are on
+abbrev pub bitsOn : ℕ → ℕ
+bitsOn b = bit b 0 + bit b 1 + bit b 2 + bit b 3 + bit b 4 + bit b 5 + bit b 6 + bit b 7
+
 abbrev pub OnesAreBits : Type 0
-OnesAreBits = (b : ℕ) → b < 256 → ones b ≡ bit b 0 + bit b 1 + bit b 2 + bit b 3 + bit b 4 + bit b 5 + bit b 6 + bit b 7
+OnesAreBits = (b : ℕ) → b < 256 → ones b ≡ bitsOn b
 
 -- ports that hold bytes have at most eight signals on for each
 abbrev pub EightAPort : Type 0
