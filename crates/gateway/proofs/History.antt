@@ -4,10 +4,10 @@ use mathlib.Core.Path.{_≡_, refl, sym, ap, ap₂, _∙_}
 use mathlib.Core.Bool.{cond}
 use mathlib.Core.List.{List, [], _∷_, map}
 use native.Mathlib.Omega.{arith}
-use lib.Dec.{ltb, eqb}
-use lib.ListN.{length, getD, take}
+use lib.Dec.{ltb}
+use lib.ListN.{length, take}
 use Rattle.frame.proofs.Writing.{written}
-use Rattle.model.specs.Call.{Call, serve, input, outputsOn, Answer, noReply, theCount}
+use Rattle.model.specs.Call.{Call, serve, input, outputsOn, Answer, noReply}
 use Rattle.model.specs.Box.{Box, box, Decision, setup, isFitted, decide, performTables, perform, respond, after, answer, run}
 use Rattle.model.specs.Addressed.{isFor, answersTo, armOf}
 use Rattle.model.specs.Demand3.{Isolated}

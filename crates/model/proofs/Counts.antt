@@ -7,13 +7,13 @@ use native.Mathlib.Omega.{arith}
 use native.Mathlib.Decide.{ℕ-discrete}
 use lib.Count.{ones}
 use lib.IntN.{natAbs}
-use lib.ListN.{length, getD, set, replicate, length-set, getD-replicate}
+use lib.ListN.{getD, set, replicate, getD-replicate}
 use lib.Seq.{getD-set-same, getD-set-other}
 use Rattle.commands.specs.declared.request.Store.{Store}
 use Rattle.commands.specs.declared.request.Store.the-variants as store
 use Rattle.commands.specs.declared.request.Request.the-variants as request
 use Rattle.ports.specs.On.{signalsOn, moved}
-use Rattle.tables.specs.Tables.{Tables, StoreInRange, at2, set2, setOutput, stored, zeros}
+use Rattle.tables.specs.Tables.{Tables, StoreInRange, at2, set2, stored, zeros}
 use Rattle.ports.proofs.Bits.{with-bit-byte}
 use Rattle.ports.proofs.On.{eight-a-port, moved-true}
 use Rattle.tables.proofs.Ranges.{store-within}

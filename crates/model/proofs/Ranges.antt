@@ -7,7 +7,7 @@ use native.Mathlib.Omega.{arith}
 use borrow.Author.Tests.{leb-true}
 use lib.Dec.{ltb, leb, eqb}
 use lib.IntN.{ℤ, pos, natAbs}
-use lib.ListN.{getD, replicate}
+use lib.ListN.{replicate}
 use Rattle.frame.specs.Frame.{readFrame}
 use Rattle.commands.specs.declared.command.Command.the-variants.{Snl}
 use Rattle.commands.specs.declared.command.Kind.{Kind}
