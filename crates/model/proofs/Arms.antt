@@ -24,7 +24,7 @@ use Rattle.model.specs.Addressed.{eventOf, armOf}
 use Rattle.model.specs.Shaped.{Shaped}
 use Rattle.model.proofs.Laws.{row-other, row-same}
 use Rattle.model.proofs.Slots.{concerns, heard}
-use Rattle.model.proofs.Counts.{Tallied, counted}
+use Rattle.model.proofs.Counts.{Tallied, true-count}
 
 -- the box after a store
 abbrev storedIn : Box → ℕ → Store → Box
@@ -72,7 +72,7 @@ module _ (b : Box) (k : ℕ) (y : Tallied (b .tables)) (l : k < 4) where
   unfolding step perform respond
   same (serve slice room) = body-same slice (getD (b .stations) k 0) (readBody (readFrame slice .body))
   same (input j p v) = record { arm = search row-same; answer = refl }
-  same (outputsOn j) = record { arm = refl; answer = ap theCount (counted (b .tables) k l y .count) }
+  same (outputsOn j) = record { arm = refl; answer = ap theCount (true-count (b .tables) k l y .count) }
 
 -- ---- another slot's
 

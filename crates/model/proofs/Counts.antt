@@ -21,7 +21,7 @@ use Rattle.model.specs.Call.{Call}
 use Rattle.model.specs.Box.{Box, setup, at, Decision, unanswered, refused, accepted, inputSet, countAsked, decide, performTables, perform, after}
 use Rattle.model.specs.Shaped.{Shaped}
 use Rattle.model.specs.Ranges.{bringsByte}
-use Rattle.model.specs.Counts.{Counted}
+use Rattle.model.specs.Counts.{TrueCount}
 use Rattle.model.proofs.Laws.{row-other, row-same, Every, every-set, every-equal}
 use Rattle.model.proofs.Slots.{concerns, concerned}
 use Rattle.model.proofs.Shaped.{after-shaped, setup-shaped}
@@ -116,7 +116,7 @@ setup-tallied want =
 
 -- ---- in the words of specs/Counts.antt
 
-pub counted : (t : Tables) (k : ℕ) → k < 4 → Tallied t → Counted t k
-counted t k l h =
+pub true-count : (t : Tables) (k : ℕ) → k < 4 → Tallied t → TrueCount t k
+true-count t k l h =
     let y = h .tally in
     record { count = y .count k l; most = rw (y .count k l) (eight-a-port 32 (getD (t .outputs) k []) (y .bytes k)) }

@@ -15,7 +15,7 @@ use Rattle.model.specs.Demand3.{Isolated, Demand3}
 use Rattle.model.proofs.Laws.{false-true}
 use Rattle.model.proofs.Slots.{Apart, setup-apart, nowhere-at, concerns, concerned, decided}
 use Rattle.model.proofs.Arms.{other, same}
-use Rattle.model.proofs.Counts.{Tallied, after-tallied, setup-tallied, counted}
+use Rattle.model.proofs.Counts.{Tallied, after-tallied, setup-tallied, true-count}
 
 -- ---- one call
 
@@ -148,4 +148,4 @@ pub always-shaped : AlwaysShaped
 always-shaped want cs = always-tallied want cs .shaped
 
 pub always-counted : AlwaysCounted
-always-counted want cs k l = counted (run (setup want) cs .tables) k l (always-tallied want cs)
+always-counted want cs k l = true-count (run (setup want) cs .tables) k l (always-tallied want cs)

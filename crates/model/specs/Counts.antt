@@ -9,7 +9,7 @@ use Rattle.model.specs.Call.{Call}
 use Rattle.model.specs.Box.{setup, run}
 
 -- the number kept for slot k
-pub record Counted (t : Tables) (k : ℕ) : Type 0 where
+pub record TrueCount (t : Tables) (k : ℕ) : Type 0 where
   -- it is the ones counted over the 32 output ports
   pub count : getD (t .on) k 0 ≡ signalsOn 32 (getD (t .outputs) k [])
   -- there are 256 outputs
@@ -17,4 +17,4 @@ pub record Counted (t : Tables) (k : ℕ) : Type 0 where
 
 -- after any setup and any list of calls, for each slot (proved in proofs/Isolation.antt)
 abbrev pub AlwaysCounted : Type 0
-AlwaysCounted = (want : List ℕ) (cs : List Call) (k : ℕ) → k < 4 → Counted (run (setup want) cs .tables) k
+AlwaysCounted = (want : List ℕ) (cs : List Call) (k : ℕ) → k < 4 → TrueCount (run (setup want) cs .tables) k

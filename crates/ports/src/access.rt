@@ -11,6 +11,7 @@ ghost use lib.IntN.{natAbs, pos};
 ghost use Rattle.bodies.specs.declared.reply.Data.the-variants as held;
 ghost use Rattle.ports.specs.Bits.{bit, withBit};
 ghost use Rattle.ports.specs.On.{moved};
+ghost use Rattle.ports.specs.Place.{byteWith};
 
 // Bit k of a byte.
 fn bit_of(b: u8, k: u8) -> u8
@@ -62,6 +63,15 @@ pub fn load_port(ports: &[u8], port: Port) -> Data
     Data::Port(from_byte(ports[p]))
 }
 
+// The byte of a place's port, with v for the bit there.
+fn byte_with(ports: &[u8], place: Place, v: i32) -> u8
+    requires { ⌜ (place .port < length (now ports)) × ((place .bit < 8) × (natAbs v < 2)) ⌝ }
+    ensures { λ r. ⌜ r ≡ byteWith (now (ports .entry)) place (natAbs v) ⌝ }
+{
+    let port = place.port;
+    with_bit(ports[port], place.bit, as_byte(v))
+}
+
 // Puts a byte into a port. Every SN that changes a port goes through here.
 fn set_port(ports: &mut [u8], port: usize, v: u8)
     requires { ⌜ port < length (now ports) ⌝ }
@@ -91,10 +101,10 @@ fn set_output(ports: &mut [u8], on: u16, port: usize, v: u8) -> u16
 // Replaces the memory bit at a place.
 pub fn store_bit(ports: &mut [u8], place: Place, v: i32)
     requires { ⌜ (place .port < length (now ports)) × ((place .bit < 8) × (natAbs v < 2)) ⌝ }
-    ensures { λ _. ⌜ now (ports .exit) ≡ set (now (ports .entry)) (place .port) (withBit (getD (now (ports .entry)) (place .port) 0) (place .bit) (natAbs v)) ⌝ }
+    ensures { λ _. ⌜ now (ports .exit) ≡ set (now (ports .entry)) (place .port) (byteWith (now (ports .entry)) place (natAbs v)) ⌝ }
 {
     let port = place.port;
-    let b = with_bit(ports[port], place.bit, as_byte(v));
+    let b = byte_with(ports, place, v);
     set_port(ports, port, b);
 }
 
@@ -110,11 +120,11 @@ pub fn store_port(ports: &mut [u8], port: Port, v: i32)
 // Replaces the output at a place.
 pub fn store_output(ports: &mut [u8], on: u16, place: Place, v: i32) -> u16
     requires { ⌜ (place .port < length (now ports)) × ((place .bit < 8) × (natAbs v < 2)) ⌝ }
-    ensures { λ _. ⌜ now (ports .exit) ≡ set (now (ports .entry)) (place .port) (withBit (getD (now (ports .entry)) (place .port) 0) (place .bit) (natAbs v)) ⌝ }
-    ensures { λ r. ⌜ r ≡ moved on (getD (now (ports .entry)) (place .port) 0) (withBit (getD (now (ports .entry)) (place .port) 0) (place .bit) (natAbs v)) ⌝ }
+    ensures { λ _. ⌜ now (ports .exit) ≡ set (now (ports .entry)) (place .port) (byteWith (now (ports .entry)) place (natAbs v)) ⌝ }
+    ensures { λ r. ⌜ r ≡ moved on (getD (now (ports .entry)) (place .port) 0) (byteWith (now (ports .entry)) place (natAbs v)) ⌝ }
 {
     let port = place.port;
-    let b = with_bit(ports[port], place.bit, as_byte(v));
+    let b = byte_with(ports, place, v);
     set_output(ports, on, port, b)
 }
 

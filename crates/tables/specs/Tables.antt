@@ -16,9 +16,9 @@ use Rattle.commands.specs.declared.request.Request.the-variants as request
 use Rattle.bodies.specs.declared.reply.Outcome.{Outcome}
 use Rattle.bodies.specs.declared.reply.Outcome.the-variants as outcome
 use Rattle.harl.specs.Message.{judgeRequest}
-use Rattle.ports.specs.Bits.{bit, withBit}
+use Rattle.ports.specs.Bits.{bit}
 use Rattle.ports.specs.On.{moved}
-use Rattle.ports.specs.Place.{placeOf}
+use Rattle.ports.specs.Place.{placeOf, byteWith}
 
 -- something of each field of a row
 pub record PerField (A : Type 0) : Type 0 where
@@ -113,7 +113,7 @@ signal2 first t s n = bit (at2 t s (placeOf first n .port)) (placeOf first n .bi
 
 -- the byte of its port with v for that signal
 abbrev pub signalByte : ℕ → List (List ℕ) → ℕ → ℕ → ℕ → ℕ
-signalByte first t s n v = withBit (at2 t s (placeOf first n .port)) (placeOf first n .bit) v
+signalByte first t s n v = byteWith (getD t s []) (placeOf first n) v
 
 -- a write of an output port: v in port p of slot s, and the number kept for s changed by the difference
 abbrev pub setOutput : ℕ → ℕ → ℕ → Tables → Tables
