@@ -1,13 +1,13 @@
 -- Data as text (document 01, "Commands"; for rows document 02, E6): as many fields as values, parted by one SP each.
-use Prim.Native.Nat.{ℕ, zero, suc, _%_}
-use mathlib.Core.Bool.{Bool, true, false}
-use mathlib.Core.List.{List, [], _∷_, _++_, map}
+use Prim.Native.Nat.{ℕ, _%_}
+use mathlib.Core.Bool.{Bool, true}
+use mathlib.Core.List.{List, map}
 use mathlib.Core.Option.{Option, none, some, Option·map}
 use lib.IntN.{ℤ, pos, natAbs}
 use lib.ListN.{length, drop, replicate}
 use Rattle.text.specs.Whole.{readWhole, shortest, padded}
 use Rattle.text.specs.Hundredths.{readHundredths, hundredthsText}
-use Rattle.frame.specs.Fields.{fields, placed, offending}
+use Rattle.frame.specs.Fields.{fields, placed, readFields, readsAs, spaced, offending}
 use Rattle.commands.specs.declared.command.Kind.{Kind}
 use Rattle.commands.specs.declared.command.Kind.the-variants as kind
 use Rattle.commands.specs.declared.request.Row.{Row}
@@ -50,28 +50,11 @@ fieldText kind.Port v = shortest (digitsOf v)
 
 -- ---- reading
 
-abbrev pub withFirst : Option ℤ → Option (List ℤ) → Option (List ℤ)
-withFirst (some v) (some vs) = some (v ∷ vs)
-withFirst (some v) none = none
-withFirst none vs = none
-
--- as many fields as values: no fewer and no more, and none malformed
-unfoldable pub readFields : Kind → ℕ → List (List ℕ) → Option (List ℤ)
-readFields k zero [] = some []
-readFields k zero (f ∷ fs) = none
-readFields k (suc n) [] = none
-readFields k (suc n) (f ∷ fs) = withFirst (readField k f) (readFields k n fs)
-
 -- the fields as data of a kind
 abbrev pub readData : Kind → List (List ℕ) → Option Row
-readData k fs = Option·map rowOf (readFields k (countOf k) fs)
+readData k fs = Option·map rowOf (readFields (readField k) (countOf k) fs)
 
 -- ---- where data are wrong (document 02, E9)
-
--- what was read passes a test
-abbrev pub readsAs : {A : Type 0} → (A → Bool) → Option A → Bool
-readsAs test (some v) = test v
-readsAs test none = false
 
 -- a test for each field of data: that it is in its form, and that its value is in range
 abbrev pub dataForms : Kind → List (List ℕ → Bool)
@@ -89,16 +72,6 @@ abbrev pub dataAt : Kind → List ℕ → ℕ → Values
 dataAt k s i = valuesAt (offending (length s) (dataForms k) (placed i (drop i s))) (readData k (fields (drop i s)))
 
 -- ---- writing
-
--- each text after one SP
-abbrev pub following : List (List ℕ) → List ℕ
-following [] = []
-following (t ∷ ts) = 32 ∷ (t ++ following ts)
-
--- texts with one SP between each two
-abbrev pub spaced : List (List ℕ) → List ℕ
-spaced [] = []
-spaced (t ∷ ts) = t ++ following ts
 
 -- the values of the data
 unfoldable pub dataText : Kind → Row → List ℕ

@@ -1,7 +1,7 @@
 -- The fields of a body (document 01, "The frame"): parted by one SP (20h) each.
-use Prim.Native.Nat.{ℕ, suc}
-use mathlib.Core.Bool.{Bool, cond}
-use mathlib.Core.List.{List, [], _∷_}
+use Prim.Native.Nat.{ℕ, zero, suc}
+use mathlib.Core.Bool.{Bool, false, cond}
+use mathlib.Core.List.{List, [], _∷_, _++_}
 use mathlib.Core.Option.{Option, none, some, Option·getD}
 use lib.Dec.{eqb}
 use lib.ListN.{length, drop}
@@ -36,6 +36,37 @@ placedMore at (b ∷ bs) =
 -- the fields of a text that stands at a position
 unfoldable pub placed : ℕ → List ℕ → List Placed
 placed at s = record { position = at; text = first s } ∷ placedMore at s
+
+-- ---- fields read as values of one type
+
+abbrev pub withFirst : {A : Type 0} → Option A → Option (List A) → Option (List A)
+withFirst (some v) (some vs) = some (v ∷ vs)
+withFirst (some v) none = none
+withFirst none vs = none
+
+-- n fields: no fewer and no more, and none malformed
+unfoldable pub readFields : {A : Type 0} → (List ℕ → Option A) → ℕ → List (List ℕ) → Option (List A)
+readFields read zero [] = some []
+readFields read zero (f ∷ fs) = none
+readFields read (suc n) [] = none
+readFields read (suc n) (f ∷ fs) = withFirst (read f) (readFields read n fs)
+
+-- what was read passes a test
+abbrev pub readsAs : {A : Type 0} → (A → Bool) → Option A → Bool
+readsAs test (some v) = test v
+readsAs test none = false
+
+-- ---- fields written
+
+-- each text after one SP
+abbrev pub following : List (List ℕ) → List ℕ
+following [] = []
+following (t ∷ ts) = 32 ∷ (t ++ following ts)
+
+-- texts with one SP between each two
+abbrev pub spaced : List (List ℕ) → List ℕ
+spaced [] = []
+spaced (t ∷ ts) = t ++ following ts
 
 -- ---- which field offends (document 02, E9)
 
