@@ -3,45 +3,6 @@ use Rattle.text.proofs.Signed.{i32-back}
 use Rattle.commands.proofs.request.store_parts.Statement.{statement}
 use Rattle.commands.proofs.request.store_parts.Tie as tie
 
-enum-known-store : tie.Need-enum-known-store
-enum-known-store c = search needs
-
-single-requires : tie.Need-single-requires
-single-requires c κs = search needs
-
-enum-known-store-2 : tie.Need-enum-known-store-2
-enum-known-store-2 c = search needs
-
-single-requires-2 : tie.Need-single-requires-2
-single-requires-2 c κs = search needs
-
-enum-known-store-3 : tie.Need-enum-known-store-3
-enum-known-store-3 c = search needs
-
-enum-known-store-4 : tie.Need-enum-known-store-4
-enum-known-store-4 c = search needs
-
-single-requires-3 : tie.Need-single-requires-3
-single-requires-3 c κs = search needs
-
-enum-known-store-5 : tie.Need-enum-known-store-5
-enum-known-store-5 c = search needs
-
-single-requires-4 : tie.Need-single-requires-4
-single-requires-4 c κs = search needs
-
-enum-known-store-6 : tie.Need-enum-known-store-6
-enum-known-store-6 c = search needs
-
-single-requires-5 : tie.Need-single-requires-5
-single-requires-5 c κs = search needs
-
-enum-known-store-7 : tie.Need-enum-known-store-7
-enum-known-store-7 c = search needs
-
-single-requires-6 : tie.Need-single-requires-6
-single-requires-6 c κs = search needs
-
 returns : tie.Need-returns
 returns c =
     let v = c .before .before .store .given in
@@ -75,27 +36,32 @@ returns-7 c =
     let v = c .before .before .store7 .given in
     rw (v .1) (rw (i32-back (v .0 .1 .0) (c .before .known-told7 .given .1 .0 .1)) at (c .single6 .ensures))
 
+returns-8 : tie.Need-returns-8
+returns-8 c = rw (c .before .store8 .given .1)
+
 pub store-parts-spec : {M : Type 1} → statement M
 store-parts-spec =
     tie.close
     (tie.spec
-    enum-known-store
-    single-requires
-    enum-known-store-2
-    single-requires-2
-    enum-known-store-3
-    enum-known-store-4
-    single-requires-3
-    enum-known-store-5
-    single-requires-4
-    enum-known-store-6
-    single-requires-5
-    enum-known-store-7
-    single-requires-6
+    (λ c. search needs)
+    (λ c κs. search needs)
+    (λ c. search needs)
+    (λ c κs. search needs)
+    (λ c. search needs)
+    (λ c. search needs)
+    (λ c κs. search needs)
+    (λ c. search needs)
+    (λ c κs. search needs)
+    (λ c. search needs)
+    (λ c κs. search needs)
+    (λ c. search needs)
+    (λ c κs. search needs)
+    (λ c. search needs)
     returns
     returns-2
     returns-3
     returns-4
     returns-5
     returns-6
-    returns-7)
+    returns-7
+    returns-8)
