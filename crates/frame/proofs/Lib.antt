@@ -4,3 +4,4 @@ pub mod Station
 pub mod Writing
 pub mod Reading
 pub mod Placed
+pub mod Spaced

@@ -110,9 +110,9 @@ module _ (etx : ℕ) (k : Kind) {r : Row} (n : countOf k ≡ 1) (z : allInRange 
 
 -- ---- the statement
 
-pub out-of-range : (etx : ℕ) (k : Kind) (fs : List Placed) {r : Row} → readNumbers k (map (λ f. f .text) fs) ≡ some r → allInRange k r ≡ false → offending etx (numberRanges k) fs ≡ startOf etx fs
-out-of-range etx kind.Timer fs e z = single etx kind.Timer refl z fs e
-out-of-range etx kind.Register fs e z = single etx kind.Register refl z fs e
-out-of-range etx kind.Row fs e z = false-true (sym z ∙ row-in (map (λ f. f .text) fs) e)
-out-of-range etx kind.Signal fs e z = single etx kind.Signal refl z fs e
-out-of-range etx kind.Port fs e z = single etx kind.Port refl z fs e
+pub numbers-out : (etx : ℕ) (k : Kind) (fs : List Placed) {r : Row} → readNumbers k (map (λ f. f .text) fs) ≡ some r → allInRange k r ≡ false → offending etx (numberRanges k) fs ≡ startOf etx fs
+numbers-out etx kind.Timer fs e z = single etx kind.Timer refl z fs e
+numbers-out etx kind.Register fs e z = single etx kind.Register refl z fs e
+numbers-out etx kind.Row fs e z = false-true (sym z ∙ row-in (map (λ f. f .text) fs) e)
+numbers-out etx kind.Signal fs e z = single etx kind.Signal refl z fs e
+numbers-out etx kind.Port fs e z = single etx kind.Port refl z fs e

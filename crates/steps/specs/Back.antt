@@ -1,10 +1,9 @@
 -- Texts and steps there and back (proved in proofs/Back.antt).
-use Prim.Native.Nat.{ℕ, _≤_}
+use Prim.Native.Nat.{ℕ}
 use mathlib.Core.Path.{_≡_}
 use mathlib.Core.Bool.{true}
 use mathlib.Core.List.{List}
 use mathlib.Core.Option.{some}
-use lib.ListN.{length}
 use Rattle.frame.specs.Fields.{fields}
 use Rattle.steps.specs.declared.texts.Text.{Text}
 use Rattle.steps.specs.declared.step.Step.{Step}

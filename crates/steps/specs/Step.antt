@@ -6,7 +6,6 @@ use mathlib.Core.Option.{Option, none, some, Option·map}
 use lib.Dec.{leb, eqb}
 use lib.ListN.{length, getD, drop, replicate}
 use Rattle.frame.specs.Fields.{fields, placed, readFields, readsAs, spaced, offending}
-use Rattle.steps.specs.declared.texts.Text.{Text}
 use Rattle.steps.specs.declared.step.Step.{Step}
 use Rattle.steps.specs.declared.step.StepRead.{StepRead}
 use Rattle.steps.specs.declared.step.StepRead.the-variants.{Of, Malformed}

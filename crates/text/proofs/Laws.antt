@@ -9,7 +9,7 @@ use native.Mathlib.Numerals.{add-one}
 use borrow.Author.Tests.{eq-eqb}
 use lib.Bits.{bitXor}
 use lib.ListN.{length, getD, take, drop, set, drop-of-length-le, length-append, length-drop}
-use lib.Seq.{drop-cons, take-all, sets}
+use lib.Seq.{drop-cons, take-all, set-out, sets}
 use Rattle.text.specs.Scan.{until, before}
 use Rattle.text.specs.Put.{Put, PutAt, xorOnto}
 use Rattle.text.specs.declared.put.Cursor.{Cursor}
@@ -79,6 +79,11 @@ sets-append xs at [] vs = rw (add-zero at)
 sets-append xs at (u ∷ us) vs =
     let e : suc at + length us ≡ at + suc (length us) = omega arith in
     sets-append (set xs at u) (suc at) us vs ∙ rw e
+
+-- past the end nothing is written
+pub sets-out : {A : Type 0} (xs : List A) (i : ℕ) (vs : List A) → length xs ≤ i → sets xs i vs ≡ xs
+sets-out xs i [] h = refl
+sets-out xs i (v ∷ vs) h = rw (set-out xs i v h) (sets-out xs (suc i) vs (omega arith))
 
 -- nothing was written
 pub put-at-none : (xs : List ℕ) (at : ℕ) → PutAt xs at [] at xs

@@ -4,3 +4,4 @@ pub mod Digits
 pub mod Decimals
 pub mod Signed
 pub mod Back
+pub mod Parts
