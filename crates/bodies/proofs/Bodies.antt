@@ -13,17 +13,18 @@ use Rattle.text.proofs.Digits.{shortest-some, shortest-short}
 use Rattle.frame.specs.Frame.{isStray, readFrame, frameOf}
 use Rattle.frame.proofs.Writing.{frame-length}
 use Rattle.frame.proofs.Reading.{frame-reads-back}
-use Rattle.commands.specs.declared.command.Kind.{Kind}
+use Rattle.commands.specs.declared.table.Kind.{Kind}
 use Rattle.commands.specs.declared.request.Row.{Row}
 use Rattle.commands.specs.declared.request.Parts.{Parts}
 use Rattle.bodies.specs.declared.reply.Outcome.{Outcome}
 use Rattle.bodies.specs.declared.reply.Outcome.the-variants as outcome
-use Rattle.commands.specs.Command.{nameOf, ruleOf}
-use Rattle.commands.proofs.Names.{name}
+use Rattle.names.specs.Command.{nameOf}
+use Rattle.commands.specs.Table.{ruleOf}
+use Rattle.names.proofs.Names.{name}
 use Rattle.bodies.specs.Body.{dataPart, bodyText}
 use Rattle.bodies.specs.Reply.{contentOf, unknownText, statusText, refusalText, performedText, outcomeText}
-use Rattle.data.specs.Ranges.{countOf}
-use Rattle.data.proofs.Bounds.{few-values}
+use Rattle.numbers.specs.Ranges.{countOf}
+use Rattle.numbers.proofs.Bounds.{few-values}
 use Rattle.data.proofs.Texts.{data-length}
 
 -- ---- lengths

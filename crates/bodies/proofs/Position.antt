@@ -13,18 +13,21 @@ use Rattle.text.specs.Whole.{readWhole}
 use Rattle.frame.specs.Fields.{first, more, fields, Placed, placedMore, placed, startOf, offending}
 use Rattle.frame.specs.Frame.{readFrame, bodyStart}
 use Rattle.frame.proofs.Placed.{Pointed, offending-next, body-place, body-fields, body-offends}
-use Rattle.commands.specs.declared.command.Command.{Command}
-use Rattle.commands.specs.declared.command.Kind.{Kind}
-use Rattle.commands.specs.declared.command.Named.{Named}
-use Rattle.commands.specs.declared.command.Named.the-variants.{Is, Unknown}
-use Rattle.commands.specs.declared.command.Rule.{Rule}
+use Rattle.names.specs.declared.command.Command.{Command}
+use Rattle.commands.specs.declared.table.Kind.{Kind}
+use Rattle.names.specs.declared.command.Named.{Named}
+use Rattle.names.specs.declared.command.Named.the-variants.{Is, Unknown}
+use Rattle.commands.specs.declared.table.Rule.{Rule}
 use Rattle.commands.specs.declared.request.Row.{Row}
-use Rattle.commands.specs.Command.{commandOf, ruleOf}
+use Rattle.names.specs.Command.{commandOf}
+use Rattle.commands.specs.Table.{ruleOf}
 use Rattle.commands.specs.Request.{one, builds}
-use Rattle.data.specs.Ranges.{outside, allInRange, judge}
+use Rattle.numbers.specs.Ranges.{allInRange}
+use Rattle.data.specs.Ranges.{outside, judge}
 use Rattle.data.specs.Data.{readsAs, dataRanges}
-use Rattle.data.proofs.Bounds.{zero-in, one-in}
-use Rattle.data.proofs.Where.{no-some, false-true, out-of-range}
+use Rattle.numbers.proofs.Bounds.{zero-in, one-in}
+use Rattle.numbers.proofs.Where.{no-some, false-true}
+use Rattle.data.proofs.Where.{out-of-range}
 use Rattle.bodies.specs.declared.body.Judged.{Judged}
 use Rattle.bodies.specs.declared.body.Judged.the-variants.{Accepted, Refused}
 use Rattle.bodies.specs.Body.{dataShape, numbered, readShape, requestOrRefusal, shaped, afterName, readBody}

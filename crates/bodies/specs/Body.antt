@@ -4,46 +4,47 @@ use mathlib.Core.Bool.{Bool, true, false, cond}
 use mathlib.Core.List.{List, [], _∷_, _++_}
 use mathlib.Core.Option.{Option, none, some}
 use lib.Dec.{eqb}
-use lib.IntN.{pos}
 use Rattle.text.specs.Whole.{readWhole, shortest}
 use Rattle.frame.specs.Fields.{fields}
-use Rattle.commands.specs.declared.command.Command.{Command}
-use Rattle.commands.specs.declared.command.Named.{Named}
-use Rattle.commands.specs.declared.command.Named.the-variants.{Is, Unknown}
-use Rattle.commands.specs.declared.command.Kind.{Kind}
-use Rattle.commands.specs.declared.command.Rule.{Rule}
-use Rattle.commands.specs.declared.request.Row.{Row}
+use Rattle.names.specs.declared.command.Command.{Command}
+use Rattle.names.specs.declared.command.Named.{Named}
+use Rattle.names.specs.declared.command.Named.the-variants.{Is, Unknown}
+use Rattle.commands.specs.declared.table.Form.{Form}
+use Rattle.commands.specs.declared.table.Rule.{Rule}
+use Rattle.commands.specs.declared.request.Payload.{Payload}
+use Rattle.commands.specs.declared.request.Payload.the-variants as payload
 use Rattle.commands.specs.declared.request.Parts.{Parts}
 use Rattle.bodies.specs.declared.body.Judged.{Judged}
 use Rattle.bodies.specs.declared.body.Judged.the-variants.{Accepted, Refused}
-use Rattle.commands.specs.Command.{commandOf, nameOf, ruleOf}
-use Rattle.commands.specs.Request.{one, builds}
+use Rattle.names.specs.Command.{commandOf, nameOf}
+use Rattle.commands.specs.Table.{ruleOf}
+use Rattle.commands.specs.Request.{builds}
 use Rattle.data.specs.Ranges.{judge}
 use Rattle.data.specs.Data.{readData, dataText}
 
 -- the fields after the number: data for an SN, none for an LN
-abbrev pub dataShape : Bool → Kind → List (List ℕ) → Option Row
-dataShape true k fs = readData k fs
-dataShape false k [] = some (one (pos 0))
-dataShape false k (f ∷ fs) = none
+abbrev pub dataShape : Bool → Form → List (List ℕ) → Option Payload
+dataShape true f fs = readData f fs
+dataShape false f [] = some payload.None
+dataShape false f (g ∷ fs) = none
 
-abbrev pub numbered : Option ℕ → Option Row → Option (ℕ × Row)
-numbered (some n) (some r) = some (n, r)
+abbrev pub numbered : Option ℕ → Option Payload → Option (ℕ × Payload)
+numbered (some n) (some p) = some (n, p)
 numbered (some n) none = none
-numbered none v = none
+numbered none p = none
 
 -- the fields after the name: the number, then the data
-unfoldable pub readShape : Rule → List (List ℕ) → Option (ℕ × Row)
+unfoldable pub readShape : Rule → List (List ℕ) → Option (ℕ × Payload)
 readShape rule [] = none
-readShape rule (n ∷ fs) = numbered (readWhole n) (dataShape (rule .store) (rule .kind) fs)
+readShape rule (n ∷ fs) = numbered (readWhole n) (dataShape (rule .store) (rule .form) fs)
 
 -- 11 NUMBER, 12 VALUE, or the request
-unfoldable pub requestOrRefusal : Command → ℕ → Row → Judged
-requestOrRefusal c n r =
-    cond (eqb (judge (ruleOf c) n r) 0) (Accepted (builds c n r)) (Refused (judge (ruleOf c) n r) (ruleOf c .store))
+unfoldable pub requestOrRefusal : Command → ℕ → Payload → Judged
+requestOrRefusal c n p =
+    cond (eqb (judge (ruleOf c) n p) 0) (Accepted (builds c n p)) (Refused (judge (ruleOf c) n p) (ruleOf c .store))
 
 -- 10 SHAPE, then those
-abbrev pub shaped : Command → Option (ℕ × Row) → Judged
+abbrev pub shaped : Command → Option (ℕ × Payload) → Judged
 shaped c (some p) = requestOrRefusal c (p .0) (p .1)
 shaped c none = Refused 10 (ruleOf c .store)
 
@@ -61,12 +62,12 @@ unfoldable pub readBody : List ℕ → Judged
 readBody s = ofFields (fields s)
 
 -- SP and the data, for an SN
-abbrev pub dataPart : Bool → Kind → Row → List ℕ
-dataPart true k r = 32 ∷ dataText k r
-dataPart false k r = []
+abbrev pub dataPart : Bool → Form → Payload → List ℕ
+dataPart true f p = 32 ∷ dataText f p
+dataPart false f p = []
 
 -- the name, SP, the number, and for an SN the data
 unfoldable pub bodyText : Parts → List ℕ
 bodyText p =
     nameOf (p .command)
-    ++ (32 ∷ (shortest (p .number) ++ dataPart (ruleOf (p .command) .store) (ruleOf (p .command) .kind) (p .values)))
+    ++ (32 ∷ (shortest (p .number) ++ dataPart (ruleOf (p .command) .store) (ruleOf (p .command) .form) (p .payload)))

@@ -6,15 +6,16 @@ use mathlib.Core.Option.{Option, none, some}
 use lib.Dec.{eqb}
 use lib.ListN.{length, drop}
 use Rattle.text.specs.Whole.{readWhole}
-use Rattle.frame.specs.Fields.{fields, Placed, placed, startOf, offending}
+use Rattle.frame.specs.Fields.{fields, Placed, placed, readsAs, startOf, offending}
 use Rattle.frame.specs.Frame.{inner}
-use Rattle.commands.specs.declared.command.Named.{Named}
-use Rattle.commands.specs.declared.command.Named.the-variants.{Is, Unknown}
-use Rattle.commands.specs.declared.command.Rule.{Rule}
-use Rattle.commands.specs.declared.request.Row.{Row}
-use Rattle.commands.specs.Command.{commandOf, ruleOf}
+use Rattle.names.specs.declared.command.Named.{Named}
+use Rattle.names.specs.declared.command.Named.the-variants.{Is, Unknown}
+use Rattle.commands.specs.declared.table.Rule.{Rule}
+use Rattle.commands.specs.declared.request.Payload.{Payload}
+use Rattle.names.specs.Command.{commandOf}
+use Rattle.commands.specs.Table.{ruleOf}
 use Rattle.data.specs.Ranges.{outside}
-use Rattle.data.specs.Data.{readsAs, dataForms, dataRanges}
+use Rattle.data.specs.Data.{dataForms, dataRanges}
 use Rattle.bodies.specs.declared.body.Shape.{Shape}
 use Rattle.bodies.specs.declared.body.Shape.the-variants as shape
 use Rattle.bodies.specs.declared.body.Judged.{Judged}
@@ -24,10 +25,10 @@ use Rattle.bodies.specs.Body.{readShape}
 
 -- a test for each field that a command expects after its name: that it is in its form, and that its value is in range
 abbrev pub forms : Rule → List (List ℕ → Bool)
-forms rule = (λ f. readsAs (λ n. true) (readWhole f)) ∷ cond (rule .store) (dataForms (rule .kind)) []
+forms rule = (λ f. readsAs (λ n. true) (readWhole f)) ∷ cond (rule .store) (dataForms (rule .form)) []
 
 abbrev pub ranges : Rule → List (List ℕ → Bool)
-ranges rule = (λ f. readsAs (λ n. not (outside rule n)) (readWhole f)) ∷ cond (rule .store) (dataRanges (rule .kind)) []
+ranges rule = (λ f. readsAs (λ n. not (outside rule n)) (readWhole f)) ∷ cond (rule .store) (dataRanges (rule .form)) []
 
 -- 10 is about forms, 11 and 12 are about ranges
 abbrev pub afterNamePosition : ℕ → Named → List Placed → ℕ → ℕ
@@ -46,7 +47,7 @@ bodyPosition s n = fieldsPosition (length s - 2) (drop 1 (placed 1 (inner s))) n
 -- ---- the answers of the code's readers
 
 -- the fields after the name, with where the data start, or the position where the fields are wrong
-abbrev pub shapeAt : ℕ → ℕ → Option (ℕ × Row) → Shape
+abbrev pub shapeAt : ℕ → ℕ → Option (ℕ × Payload) → Shape
 shapeAt start position (some p) = shape.Of (p .0) (p .1) start
 shapeAt start position none = shape.Malformed position
 

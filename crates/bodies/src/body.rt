@@ -1,18 +1,18 @@
 // The body of a request, read and written. Serving reads a body whose frame and station it has judged.
-use commands::command::Command;
-use commands::command::Named;
-use commands::command::Rule;
-use commands::command::put_name;
-use commands::command::read_name;
-use commands::command::rule_of;
 use commands::request::Parts;
+use commands::request::Payload;
 use commands::request::Request;
-use commands::request::Row;
 use commands::request::request_of;
-use data::data::Values;
+use commands::table::Rule;
+use commands::table::rule_of;
+use data::data::DataRead;
 use data::data::put_data;
 use data::data::read_data;
 use data::ranges::judge_parts;
+use names::command::Command;
+use names::command::Named;
+use names::command::put_name;
+use names::command::read_name;
 use text::put::Cursor;
 use text::put::put_byte;
 use text::whole::Whole;
@@ -26,13 +26,13 @@ ghost use lib.ListN.{length, drop};
 ghost use Rattle.text.specs.Put.{Put};
 ghost use Rattle.frame.specs.Fields.{placed};
 ghost use Rattle.frame.specs.Frame.{readFrame};
-ghost use Rattle.commands.specs.Command.{ruleOf};
+ghost use Rattle.commands.specs.Table.{ruleOf};
 ghost use Rattle.bodies.specs.Body.{requestOrRefusal, readBody, bodyText};
 ghost use Rattle.bodies.specs.Position.{fieldsPosition, bodyPosition, shapeIn, refusedAt, judgedAt};
 
 // What the fields after a name are: a number, data, and where the data start; or the position where they are wrong.
 pub enum Shape {
-    Of(u16, Row, usize),
+    Of(u16, Payload, usize),
     Malformed(usize),
 }
 
@@ -64,24 +64,15 @@ fn read_shape(rule: Rule, s: &[u8], from: usize) -> Shape
                 if rule.store {
                     return Shape::Malformed(end);
                 }
-                return Shape::Of(
-                    n,
-                    Row {
-                        x: 0,
-                        y: 0,
-                        z: 0,
-                        w: 0,
-                    },
-                    end,
-                );
+                return Shape::Of(n, Payload::None, end);
             }
             let start = end + 1;
             if rule.store {
-                let kind = rule.kind;
-                let values = read_data(kind, s, start);
-                return match values {
-                    Values::Of(row) => Shape::Of(n, row, start),
-                    Values::Malformed(position) => Shape::Malformed(position),
+                let form = rule.form;
+                let read = read_data(form, s, start);
+                return match read {
+                    DataRead::Of(payload) => Shape::Of(n, payload, start),
+                    DataRead::Malformed(position) => Shape::Malformed(position),
                 };
             }
             Shape::Malformed(start)
@@ -105,19 +96,19 @@ fn request_or_refusal(
     command: Command,
     rule: Rule,
     n: u16,
-    row: Row,
+    payload: Payload,
     number: usize,
     datum: usize,
 ) -> JudgedBody
     requires { ⌜ rule ≡ ruleOf command ⌝ }
-    ensures { λ r. ⌜ r ≡ judgedAt (λ m. cond (eqb m 11) number datum) (requestOrRefusal command n row) ⌝ }
+    ensures { λ r. ⌜ r ≡ judgedAt (λ m. cond (eqb m 11) number datum) (requestOrRefusal command n payload) ⌝ }
 {
-    let refusal = judge_parts(rule, n, row);
+    let refusal = judge_parts(rule, n, payload);
     if refusal == 0 {
         let request = request_of(Parts {
             command,
             number: n,
-            values: row,
+            payload,
         });
         return JudgedBody {
             judged: Judged::Accepted(request),
@@ -148,7 +139,9 @@ fn read_fields(s: &[u8], from: usize) -> JudgedBody
     let number = end + 1;
     let shape = read_shape(rule, s, number);
     match shape {
-        Shape::Of(n, row, datum) => request_or_refusal(command, rule, n, row, number, datum),
+        Shape::Of(n, payload, datum) => {
+            request_or_refusal(command, rule, n, payload, number, datum)
+        }
         Shape::Malformed(position) => refused(10, rule.store, position),
     }
 }
@@ -170,15 +163,15 @@ pub fn put_body(area: &mut [u8], to: Cursor, parts: Parts) -> Cursor
 {
     let command = parts.command;
     let number = parts.number;
-    let row = parts.values;
+    let payload = parts.payload;
     let rule = rule_of(command);
-    let kind = rule.kind;
+    let form = rule.form;
     let space = put_name(area, to, command);
     let digits = put_byte(area, space, b' ');
     let end = put_shortest(area, digits, number);
     if rule.store {
         let from = put_byte(area, end, b' ');
-        return put_data(area, from, kind, row);
+        return put_data(area, from, form, payload);
     }
     end
 }

@@ -1,5 +1,5 @@
 // A line of the script as the step that it asks for.
-use commands::command::is_same;
+use names::command::is_same;
 use print::part;
 use print::put;
 use print::put_slice;

@@ -2,8 +2,8 @@
 use crate::cases::case_of;
 use crate::words::put_asked;
 use crate::words::put_outcome;
-use bodies::reply::Data;
-use bodies::reply::Outcome;
+use replies::reply::Data;
+use replies::reply::Outcome;
 use commands::request::Row;
 use harl::message::Answered;
 use harl::message::read_reply;

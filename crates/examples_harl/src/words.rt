@@ -1,6 +1,6 @@
 // Typed requests, and what replies carry, in words.
-use bodies::reply::Data;
-use bodies::reply::Outcome;
+use replies::reply::Data;
+use replies::reply::Outcome;
 use commands::request::Load;
 use commands::request::Request;
 use commands::request::Row;

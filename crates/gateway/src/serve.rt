@@ -1,9 +1,9 @@
 // Serving: a slice judged, performed on the arm that it addresses, and answered.
 use bodies::body::Judged;
 use bodies::body::read_body;
-use bodies::reply::Outcome;
-use bodies::reply::put_outcome;
-use bodies::reply::put_refusal;
+use replies::reply::Outcome;
+use replies::reply::put_outcome;
+use replies::reply::put_refusal;
 use frame::reader::read_frame;
 use frame::writer::close_frame;
 use frame::writer::open_frame;
@@ -15,7 +15,7 @@ ghost use Prim.Native.Nat.{_≤_, _<_};
 ghost use lib.ListN.{length};
 ghost use Rattle.text.specs.Put.{PutAt};
 ghost use Rattle.frame.specs.Frame.{readFrame, frameOf};
-ghost use Rattle.bodies.specs.Reply.{performedText, refusalText};
+ghost use Rattle.replies.specs.Reply.{performedText, refusalText};
 ghost use Rattle.tables.specs.Tables.{Tables, tables};
 ghost use Rattle.model.specs.Box.{box};
 ghost use Rattle.gateway.specs.Entries.{Served};

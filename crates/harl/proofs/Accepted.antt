@@ -8,20 +8,23 @@ use native.Mathlib.Omega.{arith}
 use borrow.Author.Tests.{eqb-true}
 use lib.Dec.{eqb}
 use lib.IntN.{ℤ, pos}
-use Rattle.commands.specs.declared.command.Command.{Command}
-use Rattle.commands.specs.declared.command.Command.the-variants.{Lnt, Snt, Lnd, Snd, Lnl, Snl, Lnib, Lnob, Snob, Lnid, Lnod, Snod, Lnbb, Snbb, Lnbd, Snbd}
-use Rattle.commands.specs.declared.command.Named.{Named}
-use Rattle.commands.specs.declared.command.Named.the-variants.{Is, Unknown}
-use Rattle.commands.specs.declared.command.Rule.{Rule}
+use Rattle.names.specs.declared.command.Command.{Command}
+use Rattle.names.specs.declared.command.Command.the-variants.{Lnt, Snt, Lnd, Snd, Lnl, Snl, Lnib, Lnob, Snob, Lnid, Lnod, Snod, Lnbb, Snbb, Lnbd, Snbd}
+use Rattle.names.specs.declared.command.Named.{Named}
+use Rattle.names.specs.declared.command.Named.the-variants.{Is, Unknown}
+use Rattle.commands.specs.declared.table.Rule.{Rule}
 use Rattle.commands.specs.declared.request.Row.{Row}
 use Rattle.commands.specs.declared.request.Request.{Request}
-use Rattle.commands.specs.Command.{commandOf, ruleOf}
+use Rattle.names.specs.Command.{commandOf}
+use Rattle.commands.specs.Table.{ruleOf}
 use Rattle.commands.specs.Request.{one, builds}
 use Rattle.bodies.specs.declared.body.Judged.the-variants.{Accepted, Refused}
-use Rattle.data.specs.Ranges.{inRange, judge}
+use Rattle.numbers.specs.Ranges.{inRange}
+use Rattle.data.specs.Ranges.{judge}
 use Rattle.bodies.specs.Body.{readShape, requestOrRefusal, shaped, afterName, ofFields, readBody}
 use Rattle.harl.specs.Message.{judgeRequest}
-use Rattle.data.proofs.Bounds.{all-x, zero-in, passed, judged}
+use Rattle.numbers.proofs.Bounds.{all-x, zero-in}
+use Rattle.data.proofs.Bounds.{passed, judged}
 use Rattle.frame.specs.Fields.{fields}
 
 -- ---- the parts of a built request are judged as what it was built of

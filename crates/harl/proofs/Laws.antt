@@ -9,19 +9,19 @@ use lib.Dec.{eqb}
 use lib.ListN.{length}
 use Rattle.text.specs.Put.{PutAt}
 use Rattle.frame.specs.Frame.{readFrame}
-use Rattle.commands.specs.declared.command.Kind.{Kind}
-use Rattle.commands.specs.declared.command.Kind.the-variants.{Timer, Register, Row, Signal, Port}
-use Rattle.commands.specs.declared.command.Rule.{Rule}
+use Rattle.commands.specs.declared.table.Kind.{Kind}
+use Rattle.commands.specs.declared.table.Kind.the-variants.{Timer, Register, Row, Signal, Port}
+use Rattle.commands.specs.declared.table.Rule.{Rule}
 use Rattle.bodies.specs.declared.body.Judged.{Judged}
 use Rattle.bodies.specs.declared.body.Judged.the-variants as judged
 use Rattle.bodies.specs.declared.body.JudgedBody.{JudgedBody}
-use Rattle.bodies.specs.declared.reply.Content.{Content}
-use Rattle.bodies.specs.declared.reply.Data.{Data}
-use Rattle.bodies.specs.declared.reply.Outcome.the-variants as outcome
-use Rattle.data.specs.Ranges.{allInRange}
+use Rattle.replies.specs.declared.reply.Content.{Content}
+use Rattle.replies.specs.declared.reply.Data.{Data}
+use Rattle.replies.specs.declared.reply.Outcome.the-variants as outcome
+use Rattle.numbers.specs.Ranges.{allInRange}
 use Rattle.bodies.specs.Body.{readBody}
 use Rattle.bodies.specs.Position.{bodyPosition, judgedAt}
-use Rattle.bodies.specs.Reply.{contentOf, codeOf, dataFit, judgeOutcome}
+use Rattle.replies.specs.Reply.{contentOf, codeOf, dataFit, judgeOutcome}
 use Rattle.harl.specs.declared.message.Sent.{Sent}
 use Rattle.harl.specs.Message.{unsent, Wrote}
 

@@ -12,13 +12,14 @@ use Rattle.text.proofs.Digits.{shortest-grows}
 use Rattle.frame.specs.Frame.{frameOf}
 use Rattle.frame.proofs.Writing.{frame-length}
 use Rattle.commands.specs.declared.request.Request.{Request}
-use Rattle.commands.specs.Command.{nameOf, ruleOf}
+use Rattle.names.specs.Command.{nameOf}
+use Rattle.commands.specs.Table.{ruleOf}
 use Rattle.commands.specs.Request.{partsOf}
 use Rattle.bodies.specs.Body.{bodyText}
-use Rattle.bodies.specs.Reply.{judgeOutcome, outcomeText}
+use Rattle.replies.specs.Reply.{judgeOutcome, outcomeText}
 use Rattle.harl.specs.Message.{ruleFor, judgeAsked, writeRequest, judgeReply, writeReply}
 use Rattle.harl.specs.Length.{RequestsShort, RepliesShort}
-use Rattle.data.specs.Ranges.{countOf}
+use Rattle.numbers.specs.Ranges.{countOf}
 use Rattle.data.proofs.Bounds.{passed}
 use Rattle.harl.proofs.Laws.{check-passed}
 use Rattle.bodies.proofs.Bodies.{body-parts, part-length, outcome-length}

@@ -9,14 +9,14 @@ use lib.Dec.{eqb}
 use Rattle.frame.specs.Frame.{Reading, readFrame, framePosition}
 use Rattle.frame.proofs.Placed.{passed, frame-number, body-place, which-stray}
 use Rattle.commands.specs.declared.request.Request.{Request}
-use Rattle.data.proofs.Where.{false-true}
-use Rattle.bodies.specs.declared.reply.Carried.{Carried}
-use Rattle.bodies.specs.declared.reply.Carried.the-variants as carried
+use Rattle.numbers.proofs.Where.{false-true}
+use Rattle.replies.specs.declared.reply.Carried.{Carried}
+use Rattle.replies.specs.declared.reply.Carried.the-variants as carried
 use Rattle.bodies.specs.declared.body.Judged.{Judged}
 use Rattle.bodies.specs.declared.body.Judged.the-variants as judged
 use Rattle.bodies.specs.Body.{readBody}
 use Rattle.bodies.specs.Position.{bodyPosition}
-use Rattle.bodies.specs.Reply.{readOutcome}
+use Rattle.replies.specs.Reply.{readOutcome}
 use Rattle.bodies.proofs.Position.{Numbered, body-number, body-pointed}
 use Rattle.harl.specs.Message.{ruleFor, judgeAsked, RequestReading, noRequest, fromStation, readRequest, ReplyReading, noOutcome, fromCarried, readReply}
 use Rattle.harl.specs.Place.{tells, Told, FramesTold, RequestsTold, RepliesTold}

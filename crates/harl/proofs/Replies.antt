@@ -13,17 +13,17 @@ use Rattle.text.proofs.Laws.{Skips, skips-cons, not-first}
 use Rattle.text.proofs.Digits.{read-two, two-skips}
 use Rattle.frame.specs.Frame.{isStray}
 use Rattle.frame.proofs.Reading.{digit-clean}
-use Rattle.commands.specs.declared.command.Kind.{Kind}
-use Rattle.commands.specs.declared.command.Rule.{Rule}
+use Rattle.commands.specs.declared.table.Kind.{Kind}
+use Rattle.commands.specs.declared.table.Rule.{Rule}
 use Rattle.commands.specs.declared.request.Row.{Row}
-use Rattle.bodies.specs.declared.reply.Data.{Data}
-use Rattle.bodies.specs.declared.reply.Data.the-variants as held
-use Rattle.bodies.specs.declared.reply.Outcome.{Outcome}
-use Rattle.bodies.specs.declared.reply.Outcome.the-variants as outcome
-use Rattle.bodies.specs.declared.reply.Carried.the-variants as carried
-use Rattle.data.specs.Ranges.{allInRange}
+use Rattle.replies.specs.declared.reply.Data.{Data}
+use Rattle.replies.specs.declared.reply.Data.the-variants as held
+use Rattle.replies.specs.declared.reply.Outcome.{Outcome}
+use Rattle.replies.specs.declared.reply.Outcome.the-variants as outcome
+use Rattle.replies.specs.declared.reply.Carried.the-variants as carried
+use Rattle.numbers.specs.Ranges.{allInRange}
 use Rattle.data.specs.Data.{dataText}
-use Rattle.bodies.specs.Reply.{contentOf, dataOf, dataFit, judgeOutcome, statusText, contentText, outcomeText, asStatus, readStatus, readLoadOutcome, readOutcome}
+use Rattle.replies.specs.Reply.{contentOf, dataOf, dataFit, judgeOutcome, statusText, contentText, outcomeText, asStatus, readStatus, readLoadOutcome, readOutcome}
 use Rattle.harl.specs.Message.{ruleFor, judgeAsked, judgeReply, readReply, writeReply}
 use Rattle.harl.specs.Back.{RepliesReadBack}
 use Rattle.harl.proofs.Laws.{check-passed, fitting}

@@ -17,10 +17,10 @@ use Rattle.frame.specs.Fields.{fields}
 use Rattle.frame.specs.Frame.{isStray, stray}
 use Rattle.frame.proofs.Laws.{fields-cons, fields-one}
 use Rattle.frame.proofs.Reading.{digit-clean}
-use Rattle.commands.specs.declared.command.Command.{Command}
-use Rattle.commands.specs.declared.command.Command.the-variants.{Lnt, Snt, Lnd, Snd, Lnl, Snl, Lnib, Lnob, Snob, Lnid, Lnod, Snod, Lnbb, Snbb, Lnbd, Snbd}
-use Rattle.commands.specs.declared.command.Kind.{Kind}
-use Rattle.commands.specs.declared.command.Rule.{Rule}
+use Rattle.names.specs.declared.command.Command.{Command}
+use Rattle.names.specs.declared.command.Command.the-variants.{Lnt, Snt, Lnd, Snd, Lnl, Snl, Lnib, Lnob, Snob, Lnid, Lnod, Snod, Lnbb, Snbb, Lnbd, Snbd}
+use Rattle.commands.specs.declared.table.Kind.{Kind}
+use Rattle.commands.specs.declared.table.Rule.{Rule}
 use Rattle.commands.specs.declared.request.Row.{Row}
 use Rattle.commands.specs.declared.request.Load.the-variants as load
 use Rattle.commands.specs.declared.request.Store.the-variants as store
@@ -28,10 +28,12 @@ use Rattle.commands.specs.declared.request.Request.{Request}
 use Rattle.commands.specs.declared.request.Request.the-variants as request
 use Rattle.commands.specs.declared.request.Parts.{Parts}
 use Rattle.bodies.specs.declared.body.Judged.the-variants.{Accepted}
-use Rattle.commands.specs.Command.{nameOf, ruleOf}
-use Rattle.commands.proofs.Names.{name, name-solid}
+use Rattle.names.specs.Command.{nameOf}
+use Rattle.commands.specs.Table.{ruleOf}
+use Rattle.names.proofs.Names.{name, name-solid}
 use Rattle.commands.specs.Request.{one, partsOf, requestOf}
-use Rattle.data.specs.Ranges.{countOf, judge, allInRange}
+use Rattle.numbers.specs.Ranges.{countOf, allInRange}
+use Rattle.data.specs.Ranges.{judge}
 use Rattle.data.specs.Data.{dataText}
 use Rattle.bodies.specs.Body.{dataShape, readShape, requestOrRefusal, readBody, dataPart, bodyText}
 use Rattle.harl.specs.Message.{ruleFor, judgeAsked, readRequest, writeRequest}

@@ -2,7 +2,7 @@
 use Prim.Native.Nat.{ℕ}
 use mathlib.Core.Path.{_≡_}
 use Rattle.commands.specs.declared.request.Request.{Request}
-use Rattle.bodies.specs.declared.reply.Outcome.{Outcome}
+use Rattle.replies.specs.declared.reply.Outcome.{Outcome}
 use Rattle.harl.specs.Message.{theRequest, readRequest, writeRequest, theOutcome, readReply, writeReply}
 
 -- every request that can be written

@@ -3,7 +3,7 @@
 use Prim.Native.Nat.{ℕ, _≤_}
 use lib.ListN.{length}
 use Rattle.commands.specs.declared.request.Request.{Request}
-use Rattle.bodies.specs.declared.reply.Outcome.{Outcome}
+use Rattle.replies.specs.declared.reply.Outcome.{Outcome}
 use Rattle.harl.specs.Message.{writeRequest, writeReply}
 
 -- no request has more than 48 bytes

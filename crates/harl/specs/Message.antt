@@ -8,24 +8,24 @@ use lib.Dec.{ltb, eqb}
 use lib.ListN.{length}
 use lib.Seq.{sets}
 use Rattle.frame.specs.Frame.{Reading, readFrame, framePosition, frameOf}
-use Rattle.commands.specs.declared.command.Rule.{Rule}
+use Rattle.commands.specs.declared.table.Rule.{Rule}
 use Rattle.commands.specs.declared.request.Request.{Request}
-use Rattle.bodies.specs.declared.reply.Outcome.{Outcome}
-use Rattle.bodies.specs.declared.reply.Carried.{Carried}
-use Rattle.bodies.specs.declared.reply.Carried.the-variants as carried
+use Rattle.replies.specs.declared.reply.Outcome.{Outcome}
+use Rattle.replies.specs.declared.reply.Carried.{Carried}
+use Rattle.replies.specs.declared.reply.Carried.the-variants as carried
 use Rattle.harl.specs.declared.message.Asked.{Asked}
 use Rattle.harl.specs.declared.message.Asked.the-variants as asked
 use Rattle.harl.specs.declared.message.Answered.{Answered}
 use Rattle.harl.specs.declared.message.Answered.the-variants as answered
 use Rattle.harl.specs.declared.message.Sent.{Sent}
-use Rattle.commands.specs.Command.{ruleOf}
+use Rattle.commands.specs.Table.{ruleOf}
 use Rattle.commands.specs.Request.{partsOf}
 use Rattle.data.specs.Ranges.{judge}
 use Rattle.bodies.specs.declared.body.Judged.{Judged}
 use Rattle.bodies.specs.declared.body.Judged.the-variants as judged
 use Rattle.bodies.specs.Body.{readBody, bodyText}
 use Rattle.bodies.specs.Position.{bodyPosition}
-use Rattle.bodies.specs.Reply.{judgeOutcome, outcomeText, readOutcome}
+use Rattle.replies.specs.Reply.{judgeOutcome, outcomeText, readOutcome}
 
 -- the rule of a request's command
 abbrev pub ruleFor : Request → Rule

@@ -15,7 +15,7 @@ use Rattle.commands.specs.declared.request.Request.the-variants as request
 use Rattle.bodies.specs.declared.body.Judged.{Judged}
 use Rattle.bodies.specs.declared.body.Judged.the-variants as judged
 use Rattle.bodies.specs.Body.{readBody}
-use Rattle.bodies.specs.Reply.{statusText, outcomeText}
+use Rattle.replies.specs.Reply.{statusText, outcomeText}
 use Rattle.tables.specs.Tables.{loaded, stored}
 use Rattle.model.specs.Call.{Call, serve, input, outputsOn, theCount}
 use Rattle.model.specs.Box.{Box, at, Decision, unanswered, refused, accepted, inputSet, countAsked, decideBody, perform, respond}

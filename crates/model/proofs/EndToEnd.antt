@@ -6,14 +6,14 @@ use borrow.Author.Tests.{le-leb, eq-eqb}
 use lib.ListN.{getD}
 use Rattle.text.specs.Whole.{digit}
 use Rattle.frame.specs.Frame.{frameOf}
-use Rattle.commands.specs.declared.command.Kind.the-variants as kind
+use Rattle.commands.specs.declared.table.Kind.the-variants as kind
 use Rattle.commands.specs.declared.request.Load.{Load}
 use Rattle.commands.specs.declared.request.Load.the-variants as load
 use Rattle.commands.specs.declared.request.Store.{Store}
 use Rattle.commands.specs.declared.request.Store.the-variants as store
 use Rattle.commands.specs.declared.request.Request.{Request}
 use Rattle.commands.specs.declared.request.Request.the-variants as request
-use Rattle.bodies.specs.Reply.{contentOf, judgeOutcome, statusText, outcomeText}
+use Rattle.replies.specs.Reply.{contentOf, judgeOutcome, statusText, outcomeText}
 use Rattle.harl.specs.Message.{ruleFor, writeRequest}
 use Rattle.harl.proofs.Laws.{Fitting}
 use Rattle.model.specs.Call.{Call, serve}
@@ -22,7 +22,7 @@ use Rattle.model.specs.Lone.{Arm, holds, answerRequest, step}
 use Rattle.model.specs.Addressed.{Fitted, isFor, armOf}
 use Rattle.model.specs.Ranges.{InRange}
 use Rattle.model.specs.EndToEnd.{outcomeOf, armAfter, Exchanged, EndToEnd}
-use Rattle.data.proofs.Bounds.{one-in}
+use Rattle.numbers.proofs.Bounds.{one-in}
 use Rattle.model.proofs.Laws.{row-in, bit-in, written-frame, written-in, fitting-in, outcome-back}
 use Rattle.model.proofs.Slots.{Apart, setup-apart}
 use Rattle.model.proofs.Counts.{Tallied}

@@ -12,22 +12,24 @@ use lib.ListN.{length, getD, set, replicate}
 use lib.Seq.{getD-set-same, getD-set-other}
 use lib.Signed.{ltZ}
 use Rattle.frame.specs.Frame.{Reading, readFrame, framePosition, frameOf}
-use Rattle.commands.specs.declared.command.Kind.{Kind}
-use Rattle.commands.specs.declared.command.Kind.the-variants as kind
-use Rattle.commands.specs.declared.command.Rule.{Rule}
+use Rattle.commands.specs.declared.table.Kind.{Kind}
+use Rattle.commands.specs.declared.table.Kind.the-variants as kind
+use Rattle.commands.specs.declared.table.Rule.{Rule}
 use Rattle.commands.specs.declared.request.Row.{Row}
 use Rattle.commands.specs.declared.request.Request.{Request}
 use Rattle.commands.specs.Request.{one}
 use Rattle.bodies.specs.declared.body.Judged.{Judged}
 use Rattle.bodies.specs.declared.body.Judged.the-variants as judged
-use Rattle.bodies.specs.declared.reply.Data.{Data}
-use Rattle.bodies.specs.declared.reply.Outcome.{Outcome}
-use Rattle.bodies.specs.declared.reply.Outcome.the-variants as outcome
-use Rattle.data.specs.Ranges.{limitsOf, inRange, eachInRange, allInRange, judge}
+use Rattle.replies.specs.declared.reply.Data.{Data}
+use Rattle.replies.specs.declared.reply.Outcome.{Outcome}
+use Rattle.replies.specs.declared.reply.Outcome.the-variants as outcome
+use Rattle.numbers.specs.Ranges.{limitsOf, inRange, eachInRange, allInRange}
+use Rattle.data.specs.Ranges.{judge}
 use Rattle.bodies.specs.Body.{readBody}
-use Rattle.bodies.specs.Reply.{contentOf, codeOf, dataFit, judgeOutcome, outcomeText}
+use Rattle.replies.specs.Reply.{contentOf, codeOf, dataFit, judgeOutcome, outcomeText}
 use Rattle.harl.specs.Message.{ruleFor, judgeAsked, theRequest, noRequest, fromStation, requestIn, readRequest, writeRequest, judgeReply, writeReply, theOutcome, readReply}
-use Rattle.data.proofs.Bounds.{in-nat, head-in, tail-in, all-x, one-in, passed}
+use Rattle.numbers.proofs.Bounds.{in-nat, head-in, tail-in, all-x, one-in}
+use Rattle.data.proofs.Bounds.{passed}
 use Rattle.harl.proofs.Laws.{check-passed, Fitting}
 use Rattle.harl.proofs.Requests.{requests-read-back}
 use Rattle.harl.proofs.Replies.{replies-read-back}

@@ -9,19 +9,20 @@ use lib.Dec.{ltb, leb, eqb}
 use lib.IntN.{ℤ, pos, natAbs}
 use lib.ListN.{replicate}
 use Rattle.frame.specs.Frame.{readFrame}
-use Rattle.commands.specs.declared.command.Command.the-variants.{Snl}
-use Rattle.commands.specs.declared.command.Kind.{Kind}
-use Rattle.commands.specs.declared.command.Kind.the-variants as kind
+use Rattle.names.specs.declared.command.Command.the-variants.{Snl}
+use Rattle.commands.specs.declared.table.Kind.{Kind}
+use Rattle.commands.specs.declared.table.Kind.the-variants as kind
 use Rattle.commands.specs.declared.request.Store.{Store}
 use Rattle.commands.specs.declared.request.Store.the-variants as store
 use Rattle.commands.specs.declared.request.Request.the-variants as request
-use Rattle.commands.specs.Command.{ruleOf}
+use Rattle.commands.specs.Table.{ruleOf}
 use Rattle.bodies.specs.declared.body.Judged.{Judged}
 use Rattle.bodies.specs.declared.body.Judged.the-variants as judged
-use Rattle.data.specs.Ranges.{inRange}
+use Rattle.numbers.specs.Ranges.{inRange}
 use Rattle.bodies.specs.Body.{readBody}
 use Rattle.harl.specs.Message.{judgeRequest}
-use Rattle.data.proofs.Bounds.{in-size, and-left, and-right, zero-in, passed}
+use Rattle.numbers.proofs.Bounds.{in-size, and-left, and-right, zero-in}
+use Rattle.data.proofs.Bounds.{passed}
 use Rattle.harl.proofs.Accepted.{accepted-in-range}
 use Rattle.ports.specs.Bits.{withBit}
 use Rattle.tables.specs.Tables.{Tables, StoreInRange, set2, stored, zeros}

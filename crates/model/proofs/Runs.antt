@@ -8,12 +8,13 @@ use Rattle.text.specs.Put.{xorOnto}
 use Rattle.frame.specs.Checksum.{lrcOf}
 use Rattle.frame.specs.Fields.{first, more, fields, placedMore, placed, offending}
 use Rattle.frame.specs.Frame.{stationOf, readInner, readFrame, framePosition, opening, closing, frameOf}
-use Rattle.commands.specs.Command.{same, nameOf, among, commandOf}
-use Rattle.data.specs.Ranges.{inRange, eachInRange, allInRange, judge}
+use Rattle.names.specs.Command.{same, nameOf, among, commandOf}
+use Rattle.numbers.specs.Ranges.{inRange, eachInRange, allInRange}
+use Rattle.data.specs.Ranges.{judge}
 use Rattle.data.specs.Data.{readFields, dataText}
 use Rattle.bodies.specs.Body.{readShape, requestOrRefusal, readBody}
 use Rattle.bodies.specs.Position.{bodyPosition}
-use Rattle.bodies.specs.Reply.{statusText, outcomeText}
+use Rattle.replies.specs.Reply.{statusText, outcomeText}
 use Rattle.tables.specs.Tables.{loaded, stored, zeros}
 use Rattle.model.specs.Setup.{tooHigh, contains, repeats, setupNumber}
 use Rattle.model.specs.Box.{setup, scan, slotOf, isFitted, decide, perform, respond, after, answer}

@@ -8,7 +8,7 @@ use native.Mathlib.Omega.{arith}
 use borrow.Author.Tests.{ltb-true, ltb-false, eqb-true, eqb-false, not-true, lt-ltb, eq-eqb, ne-eqb}
 use lib.ListN.{length, getD, replicate}
 use lib.Dec.{ltb, eqb}
-use Rattle.data.proofs.Bounds.{and-left, and-right}
+use Rattle.numbers.proofs.Bounds.{and-left, and-right}
 use Rattle.model.specs.Setup.{tooHigh, contains, repeats, setupNumber, TooHigh, Twice, SetupJudged}
 use Rattle.model.specs.Box.{setup}
 use Rattle.model.proofs.Laws.{false-true}

@@ -13,7 +13,7 @@ use Rattle.frame.specs.Frame.{Reading, readFrame}
 use Rattle.bodies.specs.declared.body.Judged.{Judged}
 use Rattle.bodies.specs.declared.body.Judged.the-variants as judged
 use Rattle.bodies.specs.Body.{readBody}
-use Rattle.data.proofs.Bounds.{and-left, and-right}
+use Rattle.numbers.proofs.Bounds.{and-left, and-right}
 use Rattle.model.specs.Call.{Call, serve, input, outputsOn}
 use Rattle.model.specs.Setup.{setupNumber}
 use Rattle.model.specs.Box.{setup, Slot, nowhere, at, scan, slotOf, Decision, unanswered, refused, accepted, inputSet, countAsked, decideBody, decideSlot, decideFrame, isFitted, decideFitted, decide}

@@ -12,9 +12,9 @@ use lib.ListN.{length, getD, set, replicate, getD-replicate, length-map, List·g
 use lib.Seq.{getD-set-same, getD-set-other}
 use lib.IntN.{ℤ, pos, natAbs}
 use Rattle.frame.specs.Frame.{readFrame}
-use Rattle.commands.specs.declared.command.Kind.{Kind}
-use Rattle.commands.specs.declared.command.Kind.the-variants as kind
-use Rattle.commands.specs.declared.command.Rule.{Rule}
+use Rattle.commands.specs.declared.table.Kind.{Kind}
+use Rattle.commands.specs.declared.table.Kind.the-variants as kind
+use Rattle.commands.specs.declared.table.Rule.{Rule}
 use Rattle.commands.specs.declared.request.Row.{Row}
 use Rattle.commands.specs.declared.request.Load.{Load}
 use Rattle.commands.specs.declared.request.Load.the-variants as load
@@ -23,16 +23,18 @@ use Rattle.commands.specs.declared.request.Store.the-variants as store
 use Rattle.commands.specs.declared.request.Request.{Request}
 use Rattle.commands.specs.declared.request.Request.the-variants as request
 use Rattle.commands.specs.Request.{one, port, signal, partsOf}
-use Rattle.bodies.specs.declared.reply.Data.the-variants as held
-use Rattle.data.specs.Ranges.{limitsOf, allInRange, judge}
+use Rattle.replies.specs.declared.reply.Data.the-variants as held
+use Rattle.numbers.specs.Ranges.{limitsOf, allInRange}
+use Rattle.data.specs.Ranges.{judge}
 use Rattle.bodies.specs.Body.{readBody}
-use Rattle.bodies.specs.Reply.{dataOf}
+use Rattle.replies.specs.Reply.{dataOf}
 use Rattle.harl.specs.Message.{ruleFor, judgeRequest, judgeAsked, readRequest, writeRequest, noOutcome, readReply}
 use Rattle.ports.specs.Bits.{bit, withBit}
 use Rattle.tables.specs.Tables.{PerField, eachField, eachWith, EachField, asRow, withInputs, set2, LoadInRange, StoreInRange}
 use Rattle.ports.proofs.Bits.{bit-same, bit-other}
 use Rattle.tables.proofs.Ranges.{readable}
-use Rattle.data.proofs.Bounds.{in-size, in-nat, all-x, zero-in, passed, judged}
+use Rattle.numbers.proofs.Bounds.{in-size, in-nat, all-x, zero-in}
+use Rattle.data.proofs.Bounds.{passed, judged}
 use Rattle.harl.proofs.Accepted.{accepted-in-range}
 use Rattle.harl.proofs.Requests.{requests-read-back, asked-ok}
 use Rattle.model.specs.Call.{serve, input}

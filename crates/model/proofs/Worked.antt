@@ -7,11 +7,12 @@ use Rattle.text.specs.Put.{xorOnto}
 use Rattle.frame.specs.Checksum.{lrcOf}
 use Rattle.frame.specs.Frame.{stationOf, readInner, readFrame, opening, closing, frameOf}
 use Rattle.frame.specs.Fields.{first, more, fields}
-use Rattle.commands.specs.Command.{same, nameOf, among, commandOf}
-use Rattle.data.specs.Ranges.{inRange, eachInRange, allInRange, judge}
+use Rattle.names.specs.Command.{same, nameOf, among, commandOf}
+use Rattle.numbers.specs.Ranges.{inRange, eachInRange, allInRange}
+use Rattle.data.specs.Ranges.{judge}
 use Rattle.data.specs.Data.{readFields, dataText}
 use Rattle.bodies.specs.Body.{readShape, requestOrRefusal, readBody, bodyText}
-use Rattle.bodies.specs.Reply.{dataFit, judgeOutcome, statusText, outcomeText}
+use Rattle.replies.specs.Reply.{dataFit, judgeOutcome, statusText, outcomeText}
 use Rattle.harl.specs.Message.{judgeAsked, writeRequest, judgeReply, writeReply}
 use Rattle.tables.specs.Tables.{loaded, stored, zeros}
 use Rattle.model.specs.Setup.{tooHigh, contains, repeats, setupNumber}

@@ -6,8 +6,8 @@ use mathlib.Core.List.{List}
 use lib.ListN.{getD}
 use Rattle.commands.specs.declared.request.Request.{Request}
 use Rattle.commands.specs.declared.request.Request.the-variants as request
-use Rattle.bodies.specs.declared.reply.Outcome.{Outcome}
-use Rattle.bodies.specs.declared.reply.Outcome.the-variants as outcome
+use Rattle.replies.specs.declared.reply.Outcome.{Outcome}
+use Rattle.replies.specs.declared.reply.Outcome.the-variants as outcome
 use Rattle.harl.specs.Message.{writeRequest, theOutcome, readReply}
 use Rattle.model.specs.Call.{Call, serve}
 use Rattle.model.specs.Box.{Box, setup, after, answer, run}

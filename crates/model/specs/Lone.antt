@@ -13,13 +13,13 @@ use Rattle.commands.specs.declared.request.Store.{Store}
 use Rattle.commands.specs.declared.request.Store.the-variants as store
 use Rattle.commands.specs.declared.request.Request.{Request}
 use Rattle.commands.specs.declared.request.Request.the-variants as request
-use Rattle.bodies.specs.declared.reply.Data.{Data}
-use Rattle.bodies.specs.declared.reply.Data.the-variants as held
+use Rattle.replies.specs.declared.reply.Data.{Data}
+use Rattle.replies.specs.declared.reply.Data.the-variants as held
 use Rattle.bodies.specs.declared.body.Judged.{Judged}
 use Rattle.bodies.specs.declared.body.Judged.the-variants as judged
 use Rattle.bodies.specs.Body.{readBody}
 use Rattle.bodies.specs.Position.{bodyPosition}
-use Rattle.bodies.specs.Reply.{contentOf, contentText, refusalText, doneText}
+use Rattle.replies.specs.Reply.{contentOf, contentText, refusalText, doneText}
 use Rattle.ports.specs.Bits.{bit, withBit}
 use Rattle.ports.specs.On.{signalsOn}
 use Rattle.tables.specs.Tables.{PerKind, eachField, eachWith, asRow, tables, withTimers, withRegisters, withRows, withInputs, withOutputs, withMemory}

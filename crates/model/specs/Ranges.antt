@@ -5,8 +5,8 @@ use mathlib.Core.Bool.{Bool, true, _&&_}
 use mathlib.Core.List.{List, [], _∷_}
 use lib.Dec.{leb}
 use lib.IntN.{pos}
-use Rattle.commands.specs.declared.command.Kind.the-variants as kind
-use Rattle.data.specs.Ranges.{inRange}
+use Rattle.commands.specs.declared.table.Kind.the-variants as kind
+use Rattle.numbers.specs.Ranges.{inRange}
 use Rattle.tables.specs.Tables.{Tables, EachField, at2, atz2}
 use Rattle.model.specs.Call.{Call, serve, input, outputsOn}
 use Rattle.model.specs.Box.{setup, run}

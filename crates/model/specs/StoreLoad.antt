@@ -12,9 +12,9 @@ use Rattle.commands.specs.declared.request.Store.{Store}
 use Rattle.commands.specs.declared.request.Store.the-variants as store
 use Rattle.commands.specs.declared.request.Request.the-variants as request
 use Rattle.commands.specs.Request.{port}
-use Rattle.bodies.specs.declared.reply.Data.{Data}
-use Rattle.bodies.specs.declared.reply.Data.the-variants as held
-use Rattle.bodies.specs.declared.reply.Outcome.the-variants as outcome
+use Rattle.replies.specs.declared.reply.Data.{Data}
+use Rattle.replies.specs.declared.reply.Data.the-variants as held
+use Rattle.replies.specs.declared.reply.Outcome.the-variants as outcome
 use Rattle.harl.specs.Message.{theRequest, readRequest, writeRequest, ReplyReading, theOutcome, readReply}
 use Rattle.ports.specs.Bits.{bit}
 use Rattle.tables.specs.Tables.{readBy, LoadInRange, StoreInRange}

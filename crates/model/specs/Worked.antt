@@ -17,9 +17,9 @@ use Rattle.commands.specs.declared.request.Store.the-variants.{Register, Row}
 use Rattle.commands.specs.declared.request.Request.{Request}
 use Rattle.commands.specs.declared.request.Request.the-variants.{Load, Store}
 use Rattle.commands.specs.Request.{rowOf}
-use Rattle.bodies.specs.declared.reply.Outcome.{Outcome}
-use Rattle.bodies.specs.declared.reply.Data.the-variants as held
-use Rattle.bodies.specs.declared.reply.Outcome.the-variants.{Data, Status}
+use Rattle.replies.specs.declared.reply.Outcome.{Outcome}
+use Rattle.replies.specs.declared.reply.Data.the-variants as held
+use Rattle.replies.specs.declared.reply.Outcome.the-variants.{Data, Status}
 use Rattle.bodies.specs.declared.body.Judged.{Judged}
 use Rattle.bodies.specs.declared.body.Judged.the-variants.{Refused}
 use Rattle.bodies.specs.Body.{readBody}

@@ -1,14 +1,14 @@
 // The ports of one arm, whole and by signal. Inputs, outputs and memory share what reads them. A write of an output port
 // also changes the number of outputs that are on: it is given the number, and returns what it then is.
 use crate::place::Place;
-use bodies::reply::Data;
+use replies::reply::Data;
 use commands::request::Port;
 use text::hundredths::unsigned_abs;
 ghost use mathlib.Core.Path.{_≡_};
 ghost use Prim.Native.Nat.{_<_};
 ghost use lib.ListN.{length, getD, set};
 ghost use lib.IntN.{natAbs, pos};
-ghost use Rattle.bodies.specs.declared.reply.Data.the-variants as held;
+ghost use Rattle.replies.specs.declared.reply.Data.the-variants as held;
 ghost use Rattle.ports.specs.Bits.{bit, withBit};
 ghost use Rattle.ports.specs.On.{moved};
 ghost use Rattle.ports.specs.Place.{byteWith};

@@ -7,16 +7,18 @@ use lib.IntN.{ℤ, pos, negsuc, natAbs}
 use mir.Facts.{toZ-ofZ}
 use mir.Syntax.{w32}
 use mir.Val.{toZ, ofZ}
-use Rattle.commands.specs.declared.command.Kind.{Kind}
-use Rattle.commands.specs.declared.command.Kind.the-variants as kind
+use Rattle.commands.specs.declared.table.Kind.{Kind}
+use Rattle.commands.specs.declared.table.Kind.the-variants as kind
 use Rattle.commands.specs.declared.request.Load.{Load}
 use Rattle.commands.specs.declared.request.Load.the-variants as load
 use Rattle.commands.specs.declared.request.Store.{Store}
 use Rattle.commands.specs.declared.request.Store.the-variants as store
-use Rattle.commands.specs.Command.{timers, registers, rows, signals, ports, memoryBits, memoryPorts}
+use Rattle.commands.specs.Table.{timers, registers, rows, signals, ports, memoryBits, memoryPorts}
 use Rattle.commands.specs.Request.{one}
-use Rattle.data.specs.Ranges.{limitsOf, allInRange, judge}
-use Rattle.data.proofs.Bounds.{passed, in-size, all-x}
+use Rattle.numbers.specs.Ranges.{limitsOf, allInRange}
+use Rattle.data.specs.Ranges.{judge}
+use Rattle.numbers.proofs.Bounds.{in-size, all-x}
+use Rattle.data.proofs.Bounds.{passed}
 use Rattle.harl.proofs.Accepted.{bare}
 use Rattle.tables.specs.Tables.{readBy, LoadInRange, StoreInRange}
 

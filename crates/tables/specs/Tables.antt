@@ -9,12 +9,12 @@ use Rattle.commands.specs.declared.request.Load.{Load}
 use Rattle.commands.specs.declared.request.Load.the-variants as load
 use Rattle.commands.specs.declared.request.Store.{Store}
 use Rattle.commands.specs.declared.request.Store.the-variants as store
-use Rattle.bodies.specs.declared.reply.Data.{Data}
-use Rattle.bodies.specs.declared.reply.Data.the-variants as held
+use Rattle.replies.specs.declared.reply.Data.{Data}
+use Rattle.replies.specs.declared.reply.Data.the-variants as held
 use Rattle.commands.specs.declared.request.Request.{Request}
 use Rattle.commands.specs.declared.request.Request.the-variants as request
-use Rattle.bodies.specs.declared.reply.Outcome.{Outcome}
-use Rattle.bodies.specs.declared.reply.Outcome.the-variants as outcome
+use Rattle.replies.specs.declared.reply.Outcome.{Outcome}
+use Rattle.replies.specs.declared.reply.Outcome.the-variants as outcome
 use Rattle.harl.specs.Message.{judgeRequest}
 use Rattle.ports.specs.Bits.{bit}
 use Rattle.ports.specs.On.{moved}

@@ -1,8 +1,8 @@
 // One typed request on one arm. The tables come first, always in the same order. A load takes them as they
 // are; a store replaces what stands under its number, and nothing else. What tables of different width share
 // takes the slot's part of a table, as a slice.
-use bodies::reply::Data;
-use bodies::reply::Outcome;
+use replies::reply::Data;
+use replies::reply::Outcome;
 use commands::request::Load;
 use commands::request::Request;
 use commands::request::Row;
@@ -20,7 +20,7 @@ ghost use mathlib.Core.Path.{_≡_};
 ghost use Prim.Native.Nat.{_<_};
 ghost use lib.ListN.{length, getD, set};
 ghost use lib.IntN.{natAbs, pos};
-ghost use Rattle.bodies.specs.declared.reply.Data.the-variants as held;
+ghost use Rattle.replies.specs.declared.reply.Data.the-variants as held;
 ghost use Rattle.harl.specs.Message.{judgeRequest};
 ghost use Rattle.tables.specs.Tables.{Tables, columns, rowAt, tables, atz2, set2, stored, LoadInRange, StoreInRange, Loaded, Performed};
 

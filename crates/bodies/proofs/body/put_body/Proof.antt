@@ -8,9 +8,10 @@ use borrow.Author.Needs.{needs}
 use lib.ListN.{length, length-append}
 use Rattle.text.specs.Whole.{shortest}
 use Rattle.text.proofs.Laws.{put-none, put-then}
-use Rattle.commands.specs.declared.command.Rule.{Rule}
+use Rattle.commands.specs.declared.table.Rule.{Rule}
 use Rattle.commands.specs.declared.request.Parts.{Parts}
-use Rattle.commands.specs.Command.{nameOf, ruleOf}
+use Rattle.names.specs.Command.{nameOf}
+use Rattle.commands.specs.Table.{ruleOf}
 use Rattle.data.specs.Data.{dataText}
 use Rattle.bodies.specs.Body.{bodyText}
 use Rattle.bodies.proofs.Bodies.{body-parts}

@@ -14,12 +14,13 @@ use Rattle.text.proofs.Laws.{rest}
 use Rattle.frame.specs.Fields.{Placed, placedMore, placed, startOf, offending}
 use Rattle.frame.proofs.Laws.{first-is}
 use Rattle.frame.proofs.Placed.{placed-texts, placed-only, placed-next, offending-lack}
-use Rattle.commands.specs.declared.command.Command.{Command}
-use Rattle.commands.specs.declared.command.Named.{Named}
-use Rattle.commands.specs.declared.command.Named.the-variants.{Is, Unknown}
-use Rattle.commands.specs.declared.command.Rule.{Rule}
+use Rattle.names.specs.declared.command.Command.{Command}
+use Rattle.names.specs.declared.command.Named.{Named}
+use Rattle.names.specs.declared.command.Named.the-variants.{Is, Unknown}
+use Rattle.commands.specs.declared.table.Rule.{Rule}
 use Rattle.commands.specs.declared.request.Row.{Row}
-use Rattle.commands.specs.Command.{commandOf, ruleOf}
+use Rattle.names.specs.Command.{commandOf}
+use Rattle.commands.specs.Table.{ruleOf}
 use Rattle.bodies.specs.declared.body.Shape.{Shape}
 use Rattle.bodies.specs.declared.body.Shape.the-variants as shape
 use Rattle.bodies.specs.declared.body.JudgedBody.{JudgedBody}

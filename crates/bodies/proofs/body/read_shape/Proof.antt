@@ -13,13 +13,13 @@ use Rattle.text.proofs.Fields.{told-some, told-none}
 use Rattle.frame.specs.Fields.{fields, Placed, placedMore, placed, startOf, offending}
 use Rattle.frame.proofs.Laws.{first-is}
 use Rattle.frame.proofs.Placed.{placed-texts, placed-only, placed-next, offending-none, offending-lack, offending-next}
-use Rattle.commands.specs.declared.command.Rule.{Rule}
+use Rattle.commands.specs.declared.table.Rule.{Rule}
 use Rattle.commands.specs.declared.request.Row.{Row}
 use Rattle.commands.specs.Request.{one}
 use Rattle.data.specs.declared.data.Values.{Values}
 use Rattle.data.specs.declared.data.Values.the-variants as values
 use Rattle.data.specs.Data.{readFields, readData, readsAs, dataForms, dataAt}
-use Rattle.data.proofs.Bounds.{some-value, values-some, values-none}
+use Rattle.numbers.proofs.Bounds.{some-value, values-some, values-none}
 use Rattle.bodies.specs.declared.body.Shape.{Shape}
 use Rattle.bodies.specs.declared.body.Shape.the-variants.{Of, Malformed}
 use Rattle.bodies.specs.Body.{dataShape, numbered, readShape}

@@ -10,10 +10,10 @@ use Rattle.text.specs.Put.{PutAt}
 use Rattle.frame.specs.Frame.{readFrame, frameOf}
 use Rattle.commands.specs.declared.request.Request.{Request}
 use Rattle.bodies.specs.declared.body.Judged.the-variants.{Accepted, Refused}
-use Rattle.bodies.specs.declared.reply.Outcome.{Outcome}
+use Rattle.replies.specs.declared.reply.Outcome.{Outcome}
 use Rattle.bodies.specs.Body.{readBody}
 use Rattle.bodies.specs.Position.{bodyPosition}
-use Rattle.bodies.specs.Reply.{performedText, refusalText}
+use Rattle.replies.specs.Reply.{performedText, refusalText}
 use Rattle.harl.specs.Message.{Wrote}
 use Rattle.tables.specs.Tables.{Tables, performed, Performed}
 use Rattle.model.specs.Box.{respond}

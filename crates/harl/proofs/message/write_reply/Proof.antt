@@ -8,7 +8,7 @@ use lib.ListN.{length}
 use Rattle.text.proofs.Digits.{shortest-short}
 use Rattle.frame.specs.Frame.{frameOf}
 use Rattle.frame.proofs.Writing.{opening-length, framed}
-use Rattle.bodies.specs.Reply.{judgeOutcome, outcomeText}
+use Rattle.replies.specs.Reply.{judgeOutcome, outcomeText}
 use Rattle.harl.specs.Message.{judgeReply, writeReply}
 use Rattle.bodies.proofs.Bodies.{outcome-length, frame-fits}
 use Rattle.harl.proofs.Laws.{wrote-none, wrote-all}

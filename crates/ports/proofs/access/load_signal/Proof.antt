@@ -2,7 +2,7 @@ use mathlib.Core.Path.{ap, _∙_}
 use lib.IntN.{pos}
 use mir.Facts.{toZ-ofZ}
 use mir.Syntax.{w32}
-use Rattle.bodies.specs.declared.reply.Data.the-variants as held
+use Rattle.replies.specs.declared.reply.Data.the-variants as held
 use borrow.Author.Needs.{needs}
 use Rattle.ports.proofs.access.load_signal.Statement.{statement}
 use Rattle.ports.proofs.access.load_signal.Tie as tie

@@ -1,5 +1,5 @@
 use mathlib.Core.Path.{refl, ap}
-use Rattle.bodies.specs.declared.reply.Outcome.the-variants as outcome
+use Rattle.replies.specs.declared.reply.Outcome.the-variants as outcome
 use borrow.Author.Needs.{needs}
 use Rattle.tables.proofs.perform.perform.Statement.{statement}
 use Rattle.tables.proofs.perform.perform.Tie as tie

@@ -1,7 +1,7 @@
 use mathlib.Core.Path.{ap, _∙_}
 use mir.Facts.{toZ-ofZ}
 use mir.Syntax.{w32}
-use Rattle.bodies.specs.declared.reply.Data.the-variants as held
+use Rattle.replies.specs.declared.reply.Data.the-variants as held
 use Rattle.tables.specs.Tables.{loaded}
 use Rattle.tables.proofs.Ranges.{load-within}
 use borrow.Author.Needs.{needs}

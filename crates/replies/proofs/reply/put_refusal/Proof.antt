@@ -1,9 +1,9 @@
 use native.Mathlib.Omega.{arith}
 use borrow.Author.Tests.{eq-eqb, ne-eqb}
 use borrow.Author.Needs.{needs}
-use Rattle.bodies.proofs.Bodies.{status-length}
-use Rattle.bodies.proofs.reply.put_refusal.Statement.{statement}
-use Rattle.bodies.proofs.reply.put_refusal.Tie as tie
+use Rattle.replies.proofs.Bodies.{status-length}
+use Rattle.replies.proofs.reply.put_refusal.Statement.{statement}
+use Rattle.replies.proofs.reply.put_refusal.Tie as tie
 
 slice-aggregate-put-bytes : tie.Need-slice-aggregate-put-bytes
 slice-aggregate-put-bytes c = search needs

@@ -5,10 +5,10 @@ use mathlib.Core.Bool.{cond, _&&_}
 use borrow.Author.Needs.{needs}
 use borrow.Author.Tests.{eq-eqb, ne-eqb, lt-ltb, le-ltb}
 use lib.Dec.{eqb}
-use Rattle.data.specs.Ranges.{allInRange}
-use Rattle.bodies.specs.Reply.{dataFit, judgeOutcome}
-use Rattle.bodies.proofs.reply.judge_outcome.Statement.{statement}
-use Rattle.bodies.proofs.reply.judge_outcome.Tie as tie
+use Rattle.numbers.specs.Ranges.{allInRange}
+use Rattle.replies.specs.Reply.{dataFit, judgeOutcome}
+use Rattle.replies.proofs.reply.judge_outcome.Statement.{statement}
+use Rattle.replies.proofs.reply.judge_outcome.Tie as tie
 
 judged : (c : tie.After-code-of2) → _≡_ {A = ℕ} (cond (eqb (c .before .code-of .result) (c .code-of2 .result) && allInRange (c .before .before .before .before .before .before .before .before .args .rule .kind) (c .before .before .before .content-of .result .row)) 0 12) (judgeOutcome (c .before .before .before .before .before .before .before .before .args .rule) (c .before .before .before .before .before .before .before .before .args .outcome))
 unfolding judgeOutcome dataFit

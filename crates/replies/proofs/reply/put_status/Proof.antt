@@ -2,9 +2,9 @@ use native.Mathlib.Omega.{arith}
 use borrow.Author.Needs.{needs}
 use Rattle.text.specs.Whole.{digit}
 use Rattle.text.proofs.Laws.{put-then}
-use Rattle.bodies.specs.Reply.{statusText}
-use Rattle.bodies.proofs.reply.put_status.Statement.{statement}
-use Rattle.bodies.proofs.reply.put_status.Tie as tie
+use Rattle.replies.specs.Reply.{statusText}
+use Rattle.replies.proofs.reply.put_status.Statement.{statement}
+use Rattle.replies.proofs.reply.put_status.Tie as tie
 
 slice-aggregate-put-bytes : tie.Need-slice-aggregate-put-bytes
 slice-aggregate-put-bytes c = search needs

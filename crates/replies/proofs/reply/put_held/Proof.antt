@@ -1,6 +1,6 @@
 use borrow.Author.Needs.{needs}
-use Rattle.bodies.proofs.reply.put_held.Statement.{statement}
-use Rattle.bodies.proofs.reply.put_held.Tie as tie
+use Rattle.replies.proofs.reply.put_held.Statement.{statement}
+use Rattle.replies.proofs.reply.put_held.Tie as tie
 
 content-of-requires : tie.Need-content-of-requires
 content-of-requires c κs = search needs

@@ -11,17 +11,17 @@ use lib.ListN.{length, getD, drop, length-drop, List·getD-eq-default}
 use lib.Seq.{take-all}
 use Rattle.text.specs.Whole.{digitsOnto, readWhole}
 use Rattle.frame.specs.Fields.{fields}
-use Rattle.commands.specs.declared.command.Kind.{Kind}
+use Rattle.commands.specs.declared.table.Kind.{Kind}
 use Rattle.commands.specs.declared.request.Row.{Row}
 use Rattle.data.specs.declared.data.Values.{Values}
 use Rattle.data.specs.declared.data.Values.the-variants.{Of, Malformed}
 use Rattle.data.specs.Data.{readData, valuesAt}
-use Rattle.bodies.specs.declared.reply.Outcome.the-variants as outcome
-use Rattle.bodies.specs.declared.reply.Carried.the-variants as carried
-use Rattle.bodies.specs.Reply.{unknownText, asData, readStatus, readLoadOutcome}
-use Rattle.commands.proofs.Names.{same-is}
-use Rattle.bodies.proofs.reply.read_load_outcome.Statement.{statement}
-use Rattle.bodies.proofs.reply.read_load_outcome.Tie as tie
+use Rattle.replies.specs.declared.reply.Outcome.the-variants as outcome
+use Rattle.replies.specs.declared.reply.Carried.the-variants as carried
+use Rattle.replies.specs.Reply.{unknownText, asData, readStatus, readLoadOutcome}
+use Rattle.names.proofs.Names.{same-is}
+use Rattle.replies.proofs.reply.read_load_outcome.Statement.{statement}
+use Rattle.replies.proofs.reply.read_load_outcome.Tie as tie
 
 -- "E09" is the status 9
 unknown : (k : Kind) → readLoadOutcome k unknownText ≡ carried.Outcome (outcome.Status 9)

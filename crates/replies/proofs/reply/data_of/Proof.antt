@@ -1,7 +1,7 @@
 use borrow.Author.Needs.{needs}
 use Rattle.text.proofs.Signed.{i32-back}
-use Rattle.bodies.proofs.reply.data_of.Statement.{statement}
-use Rattle.bodies.proofs.reply.data_of.Tie as tie
+use Rattle.replies.proofs.reply.data_of.Statement.{statement}
+use Rattle.replies.proofs.reply.data_of.Tie as tie
 
 enum-told : tie.Need-enum-told
 enum-told c = search needs

@@ -1,7 +1,7 @@
 use borrow.Author.Needs.{needs}
 use Rattle.text.proofs.Signed.{i32-back}
-use Rattle.bodies.proofs.reply.content_of.Statement.{statement}
-use Rattle.bodies.proofs.reply.content_of.Tie as tie
+use Rattle.replies.proofs.reply.content_of.Statement.{statement}
+use Rattle.replies.proofs.reply.content_of.Tie as tie
 
 enum-known-held : tie.Need-enum-known-held
 enum-known-held c = search needs
