@@ -7,25 +7,22 @@ use mathlib.Core.Logic.{inl, inr}
 use mathlib.Core.Option.{Option, none, some}
 use native.Mathlib.Omega.{arith}
 use lib.Dec.{eqb}
-use lib.IntN.{pos}
 use lib.ListN.{length, drop}
 use Rattle.text.specs.Whole.{readWhole}
-use Rattle.frame.specs.Fields.{first, more, fields, Placed, placedMore, placed, startOf, offending}
+use Rattle.frame.specs.Fields.{first, more, fields, Placed, placedMore, placed, readsAs, startOf, offending}
 use Rattle.frame.specs.Frame.{readFrame, bodyStart}
 use Rattle.frame.proofs.Placed.{Pointed, offending-next, body-place, body-fields, body-offends}
 use Rattle.names.specs.declared.command.Command.{Command}
-use Rattle.commands.specs.declared.table.Kind.{Kind}
+use Rattle.commands.specs.declared.table.Form.{Form}
 use Rattle.names.specs.declared.command.Named.{Named}
 use Rattle.names.specs.declared.command.Named.the-variants.{Is, Unknown}
 use Rattle.commands.specs.declared.table.Rule.{Rule}
-use Rattle.commands.specs.declared.request.Row.{Row}
+use Rattle.commands.specs.declared.request.Payload.{Payload}
 use Rattle.names.specs.Command.{commandOf}
 use Rattle.commands.specs.Table.{ruleOf}
-use Rattle.commands.specs.Request.{one, builds}
-use Rattle.numbers.specs.Ranges.{allInRange}
-use Rattle.data.specs.Ranges.{outside, judge}
-use Rattle.data.specs.Data.{readsAs, dataRanges}
-use Rattle.numbers.proofs.Bounds.{zero-in, one-in}
+use Rattle.commands.specs.Request.{builds}
+use Rattle.data.specs.Ranges.{inRanges, dataFit, outside, judge}
+use Rattle.data.specs.Data.{dataRanges}
 use Rattle.numbers.proofs.Where.{no-some, false-true}
 use Rattle.data.proofs.Where.{out-of-range}
 use Rattle.bodies.specs.declared.body.Judged.{Judged}
@@ -38,44 +35,41 @@ use Rattle.bodies.specs.Position.{forms, ranges, afterNamePosition, body
 abbrev pub texts : List Placed → List (List ℕ)
 texts = map (λ f. f .text)
 
-both : (o : Option ℕ) (v : Option Row) {p : ℕ × Row} → numbered o v ≡ some p → (o ≡ some (p .0)) × (v ≡ some (p .1))
+both : (o : Option ℕ) (v : Option Payload) {p : ℕ × Payload} → numbered o v ≡ some p → (o ≡ some (p .0)) × (v ≡ some (p .1))
 both (some n) (some r) e = (ap some cc, ap some cc)
 both (some n) none e = no-some e
 both none v e = no-some e
 
 -- data out of range start the fields that are left; an LN has none
-data-out : (etx : ℕ) (t : Bool) (k : Kind) (fs : List Placed) {r : Row} → dataShape t k (texts fs) ≡ some r → allInRange k r ≡ false → offending etx (cond t (dataRanges k) []) fs ≡ startOf etx fs
-data-out etx true k fs e z = out-of-range etx k fs e z
-data-out etx false k [] {r} e z =
-    let q : one (pos 0) ≡ r = cc in
-    false-true (sym z ∙ rw (← q) (one-in k (pos 0) (zero-in k)))
-data-out etx false k (f ∷ fs) e z = no-some e
+data-out : (etx : ℕ) (t : Bool) (f : Form) (fs : List Placed) {p : Payload} → dataShape t f (texts fs) ≡ some p → cond t (inRanges f p) true ≡ false → offending etx (cond t (dataRanges f) []) fs ≡ startOf etx fs
+data-out etx true f fs e z = out-of-range etx f fs e z
+data-out etx false f fs e z = false-true (sym z)
 
-module _ (etx : ℕ) (rule : Rule) {n : ℕ} {r : Row} where
+module _ (etx : ℕ) (rule : Rule) {n : ℕ} {r : Payload} where
   -- the number is the first field
   pub number-at : (fs : List Placed) → readShape rule (texts fs) ≡ some (n, r) → outside rule n ≡ true → offending etx (ranges rule) fs ≡ startOf etx fs
   unfolding readShape
   number-at [] e z = no-some e
   number-at (f ∷ fs) e z =
-      let b = both (readWhole (f .text)) (dataShape (rule .store) (rule .kind) (texts fs)) e in
-      rw (offending-next etx (λ s. readsAs (λ m. not (outside rule m)) (readWhole s)) (cond (rule .store) (dataRanges (rule .kind)) []) f fs, b .0, z)
+      let b = both (readWhole (f .text)) (dataShape (rule .store) (rule .form) (texts fs)) e in
+      rw (offending-next etx (λ s. readsAs (λ m. not (outside rule m)) (readWhole s)) (cond (rule .store) (dataRanges (rule .form)) []) f fs, b .0, z)
 
   -- the data are those after it
-  pub data-at : (fs : List Placed) → readShape rule (texts fs) ≡ some (n, r) → outside rule n ≡ false → allInRange (rule .kind) r ≡ false → offending etx (ranges rule) fs ≡ startOf etx (drop 1 fs)
+  pub data-at : (fs : List Placed) → readShape rule (texts fs) ≡ some (n, r) → outside rule n ≡ false → dataFit rule r ≡ false → offending etx (ranges rule) fs ≡ startOf etx (drop 1 fs)
   unfolding readShape
   data-at [] e o z = no-some e
   data-at (f ∷ fs) e o z =
-      let b = both (readWhole (f .text)) (dataShape (rule .store) (rule .kind) (texts fs)) e in
-      rw (offending-next etx (λ s. readsAs (λ m. not (outside rule m)) (readWhole s)) (cond (rule .store) (dataRanges (rule .kind)) []) f fs, b .0, o) (data-out etx (rule .store) (rule .kind) fs (b .1) z)
+      let b = both (readWhole (f .text)) (dataShape (rule .store) (rule .form) (texts fs)) e in
+      rw (offending-next etx (λ s. readsAs (λ m. not (outside rule m)) (readWhole s)) (cond (rule .store) (dataRanges (rule .form)) []) f fs, b .0, o) (data-out etx (rule .store) (rule .form) fs (b .1) z)
 
 -- ---- a request, or its refusal 11 or 12 at a position
 
 -- two positions of 11 and of 12 are the same where those refusals arise
-pub same-place : (c : Command) (n : ℕ) (r : Row) (p q : ℕ → ℕ) → (outside (ruleOf c) n ≡ true → p 11 ≡ q 11) → (outside (ruleOf c) n ≡ false → allInRange (ruleOf c .kind) r ≡ false → p 12 ≡ q 12) → judgedAt p (requestOrRefusal c n r) ≡ judgedAt q (requestOrRefusal c n r)
+pub same-place : (c : Command) (n : ℕ) (r : Payload) (p q : ℕ → ℕ) → (outside (ruleOf c) n ≡ true → p 11 ≡ q 11) → (outside (ruleOf c) n ≡ false → dataFit (ruleOf c) r ≡ false → p 12 ≡ q 12) → judgedAt p (requestOrRefusal c n r) ≡ judgedAt q (requestOrRefusal c n r)
 unfolding requestOrRefusal judge
-same-place c n r p q a b = go (outside (ruleOf c) n) (allInRange (ruleOf c .kind) r) refl refl
+same-place c n r p q a b = go (outside (ruleOf c) n) (dataFit (ruleOf c) r) refl refl
   where
-    go : (s t : Bool) → outside (ruleOf c) n ≡ s → allInRange (ruleOf c .kind) r ≡ t → judgedAt p (requestOrRefusal c n r) ≡ judgedAt q (requestOrRefusal c n r)
+    go : (s t : Bool) → outside (ruleOf c) n ≡ s → dataFit (ruleOf c) r ≡ t → judgedAt p (requestOrRefusal c n r) ≡ judgedAt q (requestOrRefusal c n r)
     go true t d e = rw (d, a d)
     go false true d e = rw (d, e)
     go false false d e = rw (d, e, b d e)
@@ -87,16 +81,16 @@ abbrev pub Numbered : Judged → Type 0
 Numbered (Accepted r) = Unit
 Numbered (Refused n store) = (9 ≤ n) × (n ≤ 12)
 
-judged-number : (c : Command) (n : ℕ) (r : Row) → Numbered (requestOrRefusal c n r)
+judged-number : (c : Command) (n : ℕ) (r : Payload) → Numbered (requestOrRefusal c n r)
 unfolding requestOrRefusal judge
-judged-number c n r = go (outside (ruleOf c) n) (allInRange (ruleOf c .kind) r)
+judged-number c n r = go (outside (ruleOf c) n) (dataFit (ruleOf c) r)
   where
     go : (s t : Bool) → let j : ℕ = cond s 11 (cond t 0 12) in Numbered (cond (eqb j 0) (Accepted (builds c n r)) (Refused j (ruleOf c .store)))
     go true t = (omega arith, omega arith)
     go false true = tt
     go false false = (omega arith, omega arith)
 
-shape-number : (c : Command) (o : Option (ℕ × Row)) → Numbered (shaped c o)
+shape-number : (c : Command) (o : Option (ℕ × Payload)) → Numbered (shaped c o)
 shape-number c (some p) = judged-number c (p .0) (p .1)
 shape-number c none = (omega arith, omega arith)
 

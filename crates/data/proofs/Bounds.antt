@@ -6,10 +6,6 @@ use mathlib.Core.Option.{Option, none, some}
 use native.Mathlib.Omega.{arith}
 use borrow.Author.Tests.{le-ltb, ltb-false}
 use lib.Dec.{ltb}
-use Rattle.steps.specs.declared.step.Step.{Step}
-use Rattle.steps.specs.declared.step.StepRead.{StepRead}
-use Rattle.steps.specs.declared.step.StepRead.the-variants as step
-use Rattle.steps.specs.Step.{stepAt}
 use Rattle.commands.specs.declared.table.Rule.{Rule}
 use Rattle.commands.specs.declared.request.Payload.{Payload}
 use Rattle.data.specs.declared.data.DataRead.{DataRead}
@@ -18,17 +14,6 @@ use Rattle.data.specs.Data.{dataAt}
 use Rattle.data.specs.Ranges.{dataFit, judge}
 
 -- ---- what fields were read as
-
-no-step : {A : Type 0} {p : ℕ} {s : Step} → step.Malformed p ≡ step.Of s → A
-no-step e = let z : _≡_ {A = ℕ} 0 1 = cc in absurd (omega arith)
-
-pub step-some : (at : ℕ) (o : Option Step) {w : StepRead} {s : Step} → w ≡ stepAt at o → w ≡ step.Of s → o ≡ some s
-step-some at (some q) e d = ap some cc
-step-some at none e d = no-step (sym e ∙ d)
-
-pub step-none : (at : ℕ) (o : Option Step) {w : StepRead} {p : ℕ} → w ≡ stepAt at o → w ≡ step.Malformed p → (o ≡ none) × (p ≡ at)
-step-none at (some q) e d = no-step (sym d ∙ e)
-step-none at none e d = (refl, cc)
 
 no-data : {A : Type 0} {p : ℕ} {d : Payload} → Malformed p ≡ Of d → A
 no-data e = let z : _≡_ {A = ℕ} 0 1 = cc in absurd (omega arith)

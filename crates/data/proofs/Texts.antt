@@ -1,5 +1,5 @@
 -- The texts of data: their bytes, their length, and that data in range read back from them.
-use Prim.Native.Nat.{ℕ, _≤_}
+use Prim.Native.Nat.{ℕ, _-_, _*_, _≤_}
 use mathlib.Core.Path.{_≡_, refl, ap}
 use mathlib.Core.Bool.{true, false}
 use mathlib.Core.List.{List, []}
@@ -19,6 +19,7 @@ use Rattle.commands.specs.declared.request.Row.{Row}
 use Rattle.commands.specs.declared.request.Payload.{Payload}
 use Rattle.commands.specs.declared.request.Payload.the-variants as payload
 use Rattle.commands.specs.Request.{rowIn, stepIn}
+use Rattle.numbers.specs.Ranges.{countOf}
 use Rattle.numbers.proofs.Bounds.{some-value, few-values}
 use Rattle.numbers.proofs.Texts as numbers
 use Rattle.numbers.proofs.Where.{false-true}
@@ -30,9 +31,17 @@ pub data-clean : (f : Form) (p : Payload) → Skips isStray (dataText f p)
 data-clean (Numbers k) p = numbers.numbers-clean k (rowIn p)
 data-clean Texts p = step-clean (stepIn p)
 
--- five texts of 8 bytes, and an SP between each two
-pub data-length : (f : Form) (p : Payload) → length (dataText f p) ≤ 44
-data-length (Numbers k) p = omega (arith, numbers.numbers-length k (rowIn p) .1, few-values k)
+-- at most 8 bytes for each field, and an SP between each two
+abbrev pub mostBytes : Form → ℕ
+mostBytes (Numbers k) = 9 * countOf k - 1
+mostBytes Texts = 44
+
+pub most-bytes : (f : Form) → mostBytes f ≤ 44
+most-bytes (Numbers k) = omega (arith, few-values k)
+most-bytes Texts = omega arith
+
+pub data-length : (f : Form) (p : Payload) → length (dataText f p) ≤ mostBytes f
+data-length (Numbers k) p = omega (arith, numbers.numbers-length k (rowIn p) .1)
 data-length Texts p = step-length (stepIn p)
 
 -- without a field there are no data

@@ -5,3 +5,4 @@ pub mod Writing
 pub mod Reading
 pub mod Placed
 pub mod Spaced
+pub mod Short

@@ -1,15 +1,14 @@
 -- What being in range says of values.
 use Prim.Native.Nat.{ℕ, zero, suc, _+_, _≤_, _<_}
 use mathlib.Core.Path.{_≡_, refl, sym, ap, _∙_}
-use mathlib.Core.Bool.{Bool, true, false, cond, not, _&&_, _||_}
+use mathlib.Core.Bool.{Bool, true, false, not, _&&_}
 use mathlib.Core.List.{List, [], _∷_}
 use mathlib.Core.Option.{Option, none, some}
 use native.Mathlib.Omega.{arith}
 use native.Mathlib.Nat.{suc-add}
-use borrow.Author.Tests.{le-ltb, ltb-false, not-true}
-use lib.Dec.{ltb}
+use borrow.Author.Tests.{ltb-false, not-true}
 use lib.IntN.{ℤ, pos, negsuc, natAbs}
-use lib.ListN.{length, getD, take, drop, replicate, drop-of-length-le}
+use lib.ListN.{length, getD, take, drop, replicate, length-take, drop-of-length-le}
 use lib.Signed.{ltZ}
 use Rattle.commands.specs.declared.table.Kind.{Kind}
 use Rattle.commands.specs.declared.table.Kind.the-variants as kind
@@ -167,10 +166,5 @@ left-at (suc n) [] i l h = absurd (omega arith)
 left-at (suc n) (v ∷ vs) zero l h = refl
 left-at (suc n) (v ∷ vs) (suc i) l h = rw (suc-add i 1) (left-at n vs i (omega arith) (omega arith))
 
-short : (n : ℕ) (vs : List ℤ) → length (take n vs) ≤ n
-short zero vs = omega arith
-short (suc n) [] = omega arith
-short (suc n) (v ∷ vs) = omega (arith, short n vs)
-
 pub none-left : (n : ℕ) (vs : List ℤ) (i : ℕ) → n ≤ i → drop i (take n vs) ≡ []
-none-left n vs i h = let l : length (take n vs) ≤ i = omega (arith, short n vs) in drop-of-length-le (take n vs) l
+none-left n vs i h = drop-of-length-le (take n vs) {i = i} (omega (arith, length-take n vs))

@@ -1,23 +1,23 @@
 -- The texts of data, which requests and replies share: their bytes, their length, and that data in range read back from
 -- them. Each law is over the list of values, whatever the kind.
 use Prim.Native.Nat.{ℕ, suc, _+_, _*_, _≤_, _<_}
-use mathlib.Core.Path.{_≡_, refl, sym, ap, ap₂}
+use mathlib.Core.Path.{_≡_, refl, sym, ap}
 use mathlib.Core.Bool.{Bool, true, false}
-use mathlib.Core.List.{List, [], _∷_, _++_, map, append-nil}
+use mathlib.Core.List.{List, [], _∷_, map}
 use mathlib.Core.Option.{some, Option·map}
 use native.Mathlib.Omega.{arith}
 use lib.Dec.{eqb}
 use lib.IntN.{ℤ, pos, natAbs}
-use lib.ListN.{length, length-append}
+use lib.ListN.{length, length-map, length-append}
 use Rattle.text.specs.Whole.{readWhole, shortest}
 use Rattle.text.specs.Hundredths.{readHundredths, hundredthsText}
-use Rattle.text.proofs.Laws.{Skips, skips-append, skips-cons}
+use Rattle.text.proofs.Laws.{Skips}
 use Rattle.text.proofs.Digits.{shortest-skips, padded-skips, shortest-some, shortest-short, padded-length, read-shortest, read-padded}
 use Rattle.text.proofs.Decimals.{text-some, text-short, hundredths-skips, read-hundredths}
-use Rattle.frame.specs.Fields.{fields, withFirst, readFields, following, spaced}
+use Rattle.frame.specs.Fields.{fields, following, spaced}
 use Rattle.frame.specs.Frame.{isStray}
-use Rattle.frame.proofs.Laws.{fields-cons, fields-one}
 use Rattle.frame.proofs.Reading.{digit-clean, digit-solid}
+use Rattle.frame.proofs.Spaced.{Each, each-map, spaced-skips, spaced-length, fields-spaced, fields-back}
 use Rattle.commands.specs.declared.table.Kind.{Kind}
 use Rattle.commands.specs.declared.table.Kind.the-variants as kind
 use Rattle.commands.specs.declared.request.Row.{Row}
@@ -69,31 +69,10 @@ field-back kind.Row v e = hundredths-back kind.Row v e
 field-back kind.Signal v e = whole-back kind.Signal _ v refl e (read-shortest (digitsOf v))
 field-back kind.Port v e = whole-back kind.Port _ v refl e (read-shortest (digitsOf v))
 
--- ---- values
-
-module _ (k : Kind) where
-  -- one value at least, and 8 bytes and an SP at most for each
-  following-length : (vs : List ℤ) → length (following (map (fieldText k) vs)) ≤ 9 * length vs
-  following-length [] = omega arith
-  following-length (v ∷ vs) =
-      omega (arith, length-append (fieldText k v) (following (map (fieldText k) vs)), field-length k v .1, following-length vs)
-
-  pub spaced-length : (v : ℤ) (vs : List ℤ) → (1 ≤ length (spaced (map (fieldText k) (v ∷ vs)))) × (length (spaced (map (fieldText k) (v ∷ vs))) ≤ 8 + 9 * length vs)
-  spaced-length v vs =
-      let e = length-append (fieldText k v) (following (map (fieldText k) vs)) in
-      (omega (arith, e, field-length k v .0), omega (arith, e, field-length k v .1, following-length vs))
-
-  -- the fields of the text are the texts of the values
-  fields-spaced : (v : ℤ) (vs : List ℤ) → fields (spaced (map (fieldText k) (v ∷ vs))) ≡ map (fieldText k) (v ∷ vs)
-  fields-spaced v [] = rw (append-nil (fieldText k v)) (fields-one (fieldText k v) (field-solid k v))
-  fields-spaced v (u ∷ us) =
-      rw (fields-cons (fieldText k v) (spaced (map (fieldText k) (u ∷ us))) (field-solid k v)) (ap (λ t. fieldText k v ∷ t) (fields-spaced u us))
-
-  -- which read back
-  values-back : (vs : List ℤ) → eachInRange k vs ≡ true → readFields (readField k) (length vs) (map (fieldText k) vs) ≡ some vs
-  unfolding readFields
-  values-back [] e = refl
-  values-back (v ∷ vs) e = ap₂ withFirst (field-back k v (head-in k v vs e)) (values-back vs (tail-in k v vs e))
+-- and so do values in range
+values-back : (k : Kind) (vs : List ℤ) → eachInRange k vs ≡ true → Each (λ v. readField k (fieldText k v) ≡ some v) vs
+values-back k [] e = tt
+values-back k (v ∷ vs) e = (field-back k v (head-in k v vs e), values-back k vs (tail-in k v vs e))
 
 -- ---- data
 
@@ -107,15 +86,8 @@ count-values kind.Port r = refl
 
 pub numbers-skips : (test : ℕ → Bool) → ((d : ℕ) → d < 10 → test (d + 48) ≡ false) → test 46 ≡ false → test 45 ≡ false → test 32 ≡ false → (k : Kind) (r : Row) → Skips test (numbersText k r)
 unfolding numbersText
-numbers-skips test none point minus space k r = first (valuesOf k r)
-  where
-    rest : (vs : List ℤ) → Skips test (following (map (fieldText k) vs))
-    rest [] = λ bs. omega arith
-    rest (v ∷ vs) = skips-cons test 32 (fieldText k v ++ following (map (fieldText k) vs)) space (skips-append test (fieldText k v) (following (map (fieldText k) vs)) (field-skips test none point minus k v) (rest vs))
-
-    first : (vs : List ℤ) → Skips test (spaced (map (fieldText k) vs))
-    first [] = λ bs. omega arith
-    first (v ∷ vs) = skips-append test (fieldText k v) (following (map (fieldText k) vs)) (field-skips test none point minus k v) (rest vs)
+numbers-skips test none point minus space k r =
+    spaced-skips test space (map (fieldText k) (valuesOf k r)) (each-map (Skips test) (fieldText k) (field-skips test none point minus k) (valuesOf k r))
 
 -- no byte of data is stray
 pub numbers-clean : (k : Kind) (r : Row) → Skips isStray (numbersText k r)
@@ -128,7 +100,11 @@ numbers-length k r = go (valuesOf k r) (count-values k r) (some-value k .1)
   where
     go : (vs : List ℤ) → length vs ≡ countOf k → countOf k ≡ suc (some-value k .0) → (1 ≤ length (spaced (map (fieldText k) vs))) × (length (spaced (map (fieldText k) vs)) < 9 * countOf k)
     go [] n p = absurd (omega arith)
-    go (v ∷ vs) n p = let l = spaced-length k v vs in (l .0, omega (arith, l .1))
+    go (v ∷ vs) n p =
+        let each = each-map (λ t. length t ≤ 8) (fieldText k) (λ v. field-length k v .1) (v ∷ vs) in (
+          omega (arith, length-append (fieldText k v) (following (map (fieldText k) vs)), field-length k v .0),
+          omega (arith, spaced-length 8 (fieldText k v) (map (fieldText k) vs) each, length-map vs (fieldText k)),
+        )
 
 -- what a text of data keeps of a row: the values of its kind
 abbrev pub kept : Kind → Row → Row
@@ -141,4 +117,7 @@ numbers-back k r e = go (valuesOf k r) (count-values k r) (some-value k .1) e
   where
     go : (vs : List ℤ) → length vs ≡ countOf k → countOf k ≡ suc (some-value k .0) → eachInRange k vs ≡ true → readNumbers k (fields (spaced (map (fieldText k) vs))) ≡ some (rowOf vs)
     go [] n p e = absurd (omega arith)
-    go (v ∷ vs) n p e = rw (fields-spaced k v vs, ← n) (ap (Option·map rowOf) (values-back k (v ∷ vs) e))
+    go (v ∷ vs) n p e =
+        let solid = each-map (Skips (λ b. eqb b 32)) (fieldText k) (field-solid k) (v ∷ vs) in
+        rw (fields-spaced (fieldText k v) (map (fieldText k) vs) solid, ← n)
+        (ap (Option·map rowOf) (fields-back (readField k) (fieldText k) (v ∷ vs) (values-back k (v ∷ vs) e)))

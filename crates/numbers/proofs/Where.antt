@@ -4,7 +4,7 @@ use Prim.Native.Nat.{ℕ, zero, suc}
 use mathlib.Core.Path.{_≡_, refl, sym, subst, _∙_}
 use mathlib.Core.Bool.{Bool, true, false, cond}
 use mathlib.Core.List.{List, [], _∷_, map}
-use mathlib.Core.Option.{Option, none, some, Option·map}
+use mathlib.Core.Option.{Option, none, some, Option·map, Option·none-ne-some}
 use native.Mathlib.Omega.{arith}
 use borrow.Author.Tests.{le-ltb}
 use lib.Dec.{eqb}
@@ -16,26 +16,23 @@ use Rattle.text.specs.declared.hundredths.Magnitude.the-variants.{Size, Unreada
 use Rattle.text.proofs.Decimals.{magnitude-small}
 use Rattle.frame.specs.Fields.{Placed, startOf, offending, withFirst, readFields, readsAs}
 use Rattle.frame.proofs.Placed.{offending-next}
+use Rattle.frame.proofs.Spaced.{Each, fields-each}
 use Rattle.commands.specs.declared.table.Kind.{Kind}
 use Rattle.commands.specs.declared.table.Kind.the-variants as kind
 use Rattle.commands.specs.declared.request.Row.{Row}
 use Rattle.commands.specs.Request.{rowOf, one}
 use Rattle.numbers.specs.Ranges.{countOf, inRange, eachInRange, allInRange}
 use Rattle.numbers.specs.Numbers.{readField, readNumbers, numberRanges}
-use Rattle.numbers.proofs.Bounds.{zero-in, one-in, head-in, tail-in}
+use Rattle.numbers.proofs.Bounds.{zero-in, one-in}
 
 pub no-some : {A B : Type 0} {v : A} → none ≡ some v → B
-no-some e = let z : _≡_ {A = ℕ} 0 1 = cc in absurd (omega arith)
+no-some {v = v} e = absurd (Option·none-ne-some v e)
 
 -- ---- rows
 
 abbrev ValueIn : Option ℤ → Type 0
 ValueIn (some v) = inRange kind.Row v ≡ true
 ValueIn none = Unit
-
-abbrev ValuesIn : Option (List ℤ) → Type 0
-ValuesIn (some vs) = eachInRange kind.Row vs ≡ true
-ValuesIn none = Unit
 
 signed-in : (t : Bool) (m : Magnitude) → Small m → ValueIn (signed t m)
 unfolding inRange
@@ -53,36 +50,23 @@ hundredths-in s = go (eqb (getD s 0 0) 45)
     go true = signed-in true (magnitude (drop 1 s)) (magnitude-small (drop 1 s))
     go false = signed-in false (magnitude s) (magnitude-small s)
 
-with-first : (o : Option ℤ) (p : Option (List ℤ)) → ValueIn o → ValuesIn p → ValuesIn (withFirst o p)
-unfolding eachInRange
-with-first (some v) (some vs) a b = rw (a, b)
-with-first (some v) none a b = tt
-with-first none (some vs) a b = tt
-with-first none none a b = tt
-
-fields-in : (n : ℕ) (fs : List (List ℕ)) → ValuesIn (readFields (readField kind.Row) n fs)
-unfolding readFields eachInRange
-fields-in zero [] = refl
-fields-in zero (f ∷ fs) = tt
-fields-in (suc n) [] = tt
-fields-in (suc n) (f ∷ fs) = with-first (readHundredths f) (readFields (readField kind.Row) n fs) (hundredths-in f) (fields-in n fs)
-
 -- a place that is not given is 0, which is in range
-each-at : (i : ℕ) (vs : List ℤ) → eachInRange kind.Row vs ≡ true → inRange kind.Row (getD vs i (pos 0)) ≡ true
-each-at zero [] e = zero-in kind.Row
-each-at (suc i) [] e = zero-in kind.Row
-each-at zero (v ∷ vs) e = head-in kind.Row v vs e
-each-at (suc i) (v ∷ vs) e = each-at i vs (tail-in kind.Row v vs e)
+each-at : (i : ℕ) (vs : List ℤ) → Each (λ v. inRange kind.Row v ≡ true) vs → inRange kind.Row (getD vs i (pos 0)) ≡ true
+each-at zero [] a = zero-in kind.Row
+each-at (suc i) [] a = zero-in kind.Row
+each-at zero (v ∷ vs) a = a .0
+each-at (suc i) (v ∷ vs) a = each-at i vs (a .1)
 
 row-in : (fs : List (List ℕ)) {r : Row} → readNumbers kind.Row fs ≡ some r → allInRange kind.Row r ≡ true
 unfolding allInRange eachInRange
-row-in fs {r} e = go (readFields (readField kind.Row) 4 fs) (fields-in 4 fs) e
+row-in fs {r} e = go (readFields (readField kind.Row) 4 fs) refl e
   where
-    go : (o : Option (List ℤ)) → ValuesIn o → Option·map rowOf o ≡ some r → allInRange kind.Row r ≡ true
-    go none a e = no-some e
-    go (some vs) a e =
-        let q : rowOf vs ≡ r = cc in
-        rw (← q, each-at 0 vs a, each-at 1 vs a, each-at 2 vs a, each-at 3 vs a)
+    go : (o : Option (List ℤ)) → readFields (readField kind.Row) 4 fs ≡ o → Option·map rowOf o ≡ some r → allInRange kind.Row r ≡ true
+    go none q e = no-some e
+    go (some vs) q e =
+        let a = fields-each (λ v. inRange kind.Row v ≡ true) readHundredths (λ f v e. rw e at (hundredths-in f)) 4 fs vs q .0 in
+        let d : rowOf vs ≡ r = cc in
+        rw (← d, each-at 0 vs a, each-at 1 vs a, each-at 2 vs a, each-at 3 vs a)
 
 pub false-true : {A : Type 0} → false ≡ true → A
 false-true e = absurd (subst (λ (t : Bool). cond t ⊥ Unit) e tt)

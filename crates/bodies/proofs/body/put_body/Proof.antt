@@ -20,7 +20,7 @@ use Rattle.bodies.proofs.body.put_body.Tie as tie
 
 -- the text for each of the two rules
 module _ (p : Parts) (rule : Rule) (e : rule ≡ ruleOf (p .command)) where
-  stored : rule .store ≡ true → bodyText p ≡ nameOf (p .command) ++ (32 ∷ (shortest (p .number) ++ (32 ∷ dataText (rule .kind) (p .values))))
+  stored : rule .store ≡ true → bodyText p ≡ nameOf (p .command) ++ (32 ∷ (shortest (p .number) ++ (32 ∷ dataText (rule .form) (p .payload))))
   unfolding bodyText
   stored h = rw (← e, h)
 
@@ -28,7 +28,7 @@ module _ (p : Parts) (rule : Rule) (e : rule ≡ ruleOf (p .command)) where
   unfolding bodyText
   loaded h = rw (← e, h)
 
-  stored-parts : rule .store ≡ true → length (bodyText p) ≡ length (nameOf (p .command)) + (1 + (length (shortest (p .number)) + (1 + length (dataText (rule .kind) (p .values)))))
+  stored-parts : rule .store ≡ true → length (bodyText p) ≡ length (nameOf (p .command)) + (1 + (length (shortest (p .number)) + (1 + length (dataText (rule .form) (p .payload)))))
   stored-parts h = ap length (stored h) ∙ simp length-append (omega arith)
 
 rule-of-requires : tie.Need-rule-of-requires
@@ -36,20 +36,20 @@ rule-of-requires c κs = search needs
 
 put-name-requires : tie.Need-put-name-requires
 put-name-requires c κs =
-    let start = c .before .before .before .before in
+    let start = c .before .before .before in
     omega (arith, body-parts (start .args .parts))
 
 put-byte-requires : tie.Need-put-byte-requires
 put-byte-requires c κs =
     let name = c .before .before .before in
-    let start = name .before .before .before .before .before in
+    let start = name .before .before .before .before in
     omega (arith, body-parts (start .args .parts), name .put-name .kept .0, name .put-name .ensures .next)
 
 put-shortest-requires : tie.Need-put-shortest-requires
 put-shortest-requires c κs =
     let sp = c .before .before .before in
     let name = sp .before .before .before .before in
-    let start = name .before .before .before .before .before in
+    let start = name .before .before .before .before in
     omega (arith, body-parts (start .args .parts), name .put-name .kept .0, name .put-name .ensures .next, sp .put-byte .kept .0, sp .put-byte .ensures .next)
 
 put-byte-requires-2 : tie.Need-put-byte-requires-2
@@ -58,7 +58,7 @@ put-byte-requires-2 c κs =
     let sp = number .before .before .before .before in
     let name = sp .before .before .before .before in
     let rule = name .before .before in
-    let start = rule .before .before .before in
+    let start = rule .before .before in
     omega (arith, stored-parts (start .args .parts) (rule .rule-of .result) (rule .rule-of .ensures) (c .before .if1 .taken), name .put-name .kept .0, name .put-name .ensures .next, sp .put-byte .kept .0, sp .put-byte .ensures .next, number .put-shortest .kept .0, number .put-shortest .ensures .next)
 
 put-data-requires : tie.Need-put-data-requires
@@ -68,7 +68,7 @@ put-data-requires c κs =
     let sp = number .before .before .before .before in
     let name = sp .before .before .before .before in
     let rule = name .before .before in
-    let start = rule .before .before .before in
+    let start = rule .before .before in
     let p = start .args .parts in
     omega (arith, stored-parts p (rule .rule-of .result) (rule .rule-of .ensures) (sp2 .before .before .if1 .taken), name .put-name .kept .0, name .put-name .ensures .next, sp .put-byte .kept .0, sp .put-byte .ensures .next, number .put-shortest .kept .0, number .put-shortest .ensures .next, sp2 .put-byte2 .kept .0, sp2 .put-byte2 .ensures .next)
 
@@ -83,7 +83,7 @@ returns c =
     let sp = number .before .before .before .before in
     let name = sp .before .before .before .before in
     let rule = name .before .before in
-    let start = rule .before .before .before in
+    let start = rule .before .before in
     rw (stored (start .args .parts) (rule .rule-of .result) (rule .rule-of .ensures) (sp2 .before .before .if1 .taken))
     (put-then (name .put-name .ensures) (put-then (sp .put-byte .ensures) (put-then (number .put-shortest .ensures) (put-then (sp2 .put-byte2 .ensures) (d .put-data .ensures)))))
 
@@ -96,7 +96,7 @@ returns-2 c =
     let sp = number .before .before .before .before in
     let name = sp .before .before .before .before in
     let rule = name .before .before in
-    let start = rule .before .before .before in
+    let start = rule .before .before in
     rw (loaded (start .args .parts) (rule .rule-of .result) (rule .rule-of .ensures) (c .if1 .left))
     (put-then (name .put-name .ensures) (put-then (sp .put-byte .ensures) (put-then (number .put-shortest .ensures) (put-none _ _))))
 

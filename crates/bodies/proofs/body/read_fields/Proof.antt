@@ -18,7 +18,7 @@ use Rattle.names.specs.declared.command.Command.{Command}
 use Rattle.names.specs.declared.command.Named.{Named}
 use Rattle.names.specs.declared.command.Named.the-variants.{Is, Unknown}
 use Rattle.commands.specs.declared.table.Rule.{Rule}
-use Rattle.commands.specs.declared.request.Row.{Row}
+use Rattle.commands.specs.declared.request.Payload.{Payload}
 use Rattle.names.specs.Command.{commandOf}
 use Rattle.commands.specs.Table.{ruleOf}
 use Rattle.bodies.specs.declared.body.Shape.{Shape}
@@ -32,17 +32,17 @@ use Rattle.bodies.proofs.body.read_fields.Tie as tie
 
 -- ---- what the fields after the name were read as, by the answer for them
 
-no-shape : {A : Type 0} {p n d : ℕ} {r : Row} → shape.Malformed p ≡ shape.Of n r d → A
+no-shape : {A : Type 0} {p n d : ℕ} {r : Payload} → shape.Malformed p ≡ shape.Of n r d → A
 no-shape e = let z : _≡_ {A = ℕ} 0 1 = cc in absurd (omega arith)
 
-shape-some : (a b : ℕ) (o : Option (ℕ × Row)) {f : Shape} {n d : ℕ} {r : Row} → f ≡ shapeAt a b o → f ≡ shape.Of n r d → (o ≡ some (n, r)) × (d ≡ a)
+shape-some : (a b : ℕ) (o : Option (ℕ × Payload)) {f : Shape} {n d : ℕ} {r : Payload} → f ≡ shapeAt a b o → f ≡ shape.Of n r d → (o ≡ some (n, r)) × (d ≡ a)
 shape-some a b (some p) {f} {n} {d} {r} e q =
     let number : p .0 ≡ n = cc in
     let row : p .1 ≡ r = cc in
     (rw (← number, ← row), cc)
 shape-some a b none e q = no-shape (sym e ∙ q)
 
-shape-none : (a b : ℕ) (o : Option (ℕ × Row)) {f : Shape} {p : ℕ} → f ≡ shapeAt a b o → f ≡ shape.Malformed p → (o ≡ none) × (p ≡ b)
+shape-none : (a b : ℕ) (o : Option (ℕ × Payload)) {f : Shape} {p : ℕ} → f ≡ shapeAt a b o → f ≡ shape.Malformed p → (o ≡ none) × (p ≡ b)
 shape-none a b (some p) e q = no-shape (sym q ∙ e)
 shape-none a b none e q = (refl, cc)
 
@@ -96,7 +96,7 @@ module _ (s : List ℕ) (i : ℕ) where
             let o = shape-none _ _ (readShape (ruleOf k) (texts after)) shape-is d in
             ap (λ (x : Rule). refusedAt 10 (x .store) p) u ∙ ap (λ (x : ℕ). refusedAt 10 (ruleOf k .store) x) (o .1) ∙ sym (followed ∙ ap (λ x. judgedAt place (shaped k x)) (o .0))
 
-        judged : {n d : ℕ} {r : Row} → f ≡ shape.Of n r d → {v : JudgedBody} → v ≡ judgedAt (λ m. cond (eqb m 11) (e + 1) d) (requestOrRefusal k n r) → v ≡ promised
+        judged : {n d : ℕ} {r : Payload} → f ≡ shape.Of n r d → {v : JudgedBody} → v ≡ judgedAt (λ m. cond (eqb m 11) (e + 1) d) (requestOrRefusal k n r) → v ≡ promised
         unfolding place after placed
         judged {n} {d} {r} x y =
             let o = shape-some _ _ (readShape (ruleOf k) (texts after)) shape-is x in

@@ -5,21 +5,21 @@ use mathlib.Core.Bool.{true, false, cond}
 use mathlib.Core.List.{List, [], _∷_, map}
 use mathlib.Core.Option.{none, some}
 use borrow.Author.Needs.{needs}
-use lib.IntN.{pos}
 use lib.ListN.{length, drop}
 use Rattle.text.specs.Scan.{fieldAt, endAt}
 use Rattle.text.specs.Whole.{readWhole}
 use Rattle.text.proofs.Fields.{told-some, told-none}
-use Rattle.frame.specs.Fields.{fields, Placed, placedMore, placed, startOf, offending}
+use Rattle.frame.specs.Fields.{fields, Placed, placedMore, placed, readsAs, startOf, offending}
 use Rattle.frame.proofs.Laws.{first-is}
 use Rattle.frame.proofs.Placed.{placed-texts, placed-only, placed-next, offending-none, offending-lack, offending-next}
 use Rattle.commands.specs.declared.table.Rule.{Rule}
-use Rattle.commands.specs.declared.request.Row.{Row}
-use Rattle.commands.specs.Request.{one}
-use Rattle.data.specs.declared.data.Values.{Values}
-use Rattle.data.specs.declared.data.Values.the-variants as values
-use Rattle.data.specs.Data.{readFields, readData, readsAs, dataForms, dataAt}
-use Rattle.numbers.proofs.Bounds.{some-value, values-some, values-none}
+use Rattle.commands.specs.declared.request.Payload.{Payload}
+use Rattle.commands.specs.declared.request.Payload.the-variants as payload
+use Rattle.data.specs.declared.data.DataRead.{DataRead}
+use Rattle.data.specs.declared.data.DataRead.the-variants as answer-for
+use Rattle.data.specs.Data.{readData, dataForms, dataIn}
+use Rattle.data.proofs.Bounds.{data-some, data-none}
+use Rattle.data.proofs.Texts.{no-fields}
 use Rattle.bodies.specs.declared.body.Shape.{Shape}
 use Rattle.bodies.specs.declared.body.Shape.the-variants.{Of, Malformed}
 use Rattle.bodies.specs.Body.{dataShape, numbered, readShape}
@@ -36,16 +36,12 @@ module _ (etx : ℕ) (rule : Rule) where
   module _ (f : Placed) (fs : List Placed) where
     unread : readWhole (f .text) ≡ none → answer (f ∷ fs) ≡ Malformed (f .position)
     unfolding answer readShape
-    unread e = rw (offending-next etx (λ s. readsAs (λ n. true) (readWhole s)) (cond (rule .store) (dataForms (rule .kind)) []) f fs, e)
+    unread e = rw (offending-next etx (λ s. readsAs (λ n. true) (readWhole s)) (cond (rule .store) (dataForms (rule .form)) []) f fs, e)
 
     -- the number is n, and the fields after it decide
-    read : {n : ℕ} → readWhole (f .text) ≡ some n → answer (f ∷ fs) ≡ shapeAt (startOf etx fs) (offending etx (cond (rule .store) (dataForms (rule .kind)) []) fs) (numbered (some n) (dataShape (rule .store) (rule .kind) (map (λ g. g .text) fs)))
+    read : {n : ℕ} → readWhole (f .text) ≡ some n → answer (f ∷ fs) ≡ shapeAt (startOf etx fs) (offending etx (cond (rule .store) (dataForms (rule .form)) []) fs) (numbered (some n) (dataShape (rule .store) (rule .form) (map (λ g. g .text) fs)))
     unfolding answer readShape
-    read e = rw (offending-next etx (λ s. readsAs (λ n. true) (readWhole s)) (cond (rule .store) (dataForms (rule .kind)) []) f fs, e)
-
-no-data : (etx : ℕ) (rule : Rule) → (offending etx (dataForms (rule .kind)) [] ≡ etx) × (readData (rule .kind) [] ≡ none)
-unfolding readFields
-no-data etx rule = rw (some-value (rule .kind) .1) (offending-lack etx _ _, refl)
+    read e = rw (offending-next etx (λ s. readsAs (λ n. true) (readWhole s)) (cond (rule .store) (dataForms (rule .form)) []) f fs, e)
 
 -- ---- the fields that stand at index i
 
@@ -62,11 +58,11 @@ module _ (rule : Rule) (s : List ℕ) (i : ℕ) where
   unread-at e = answer-is (here ∷ placedMore i (drop i s)) (rw (first-is (drop i s))) ∙ unread (length s) rule here (placedMore i (drop i s)) e
 
   module _ (h : i ≤ length s) {e n : ℕ} (w : readWhole (fieldAt s i) ≡ some n) (q : e ≡ endAt s i) where
-    alone : e ≡ length s → shapeIn rule s i ≡ shapeAt e (offending e (cond (rule .store) (dataForms (rule .kind)) []) []) (numbered (some n) (dataShape (rule .store) (rule .kind) []))
+    alone : e ≡ length s → shapeIn rule s i ≡ shapeAt e (offending e (cond (rule .store) (dataForms (rule .form)) []) []) (numbered (some n) (dataShape (rule .store) (rule .form) []))
     unfolding here
     alone z = answer-is (here ∷ []) (placed-only s i h (sym q ∙ z)) ∙ rw (z) (read (length s) rule here [] w)
 
-    followed : (e ≡ length s → ⊥) → shapeIn rule s i ≡ shapeAt (e + 1) (offending (length s) (cond (rule .store) (dataForms (rule .kind)) []) (placed (e + 1) (drop (e + 1) s))) (numbered (some n) (dataShape (rule .store) (rule .kind) (fields (drop (e + 1) s))))
+    followed : (e ≡ length s → ⊥) → shapeIn rule s i ≡ shapeAt (e + 1) (offending (length s) (cond (rule .store) (dataForms (rule .form)) []) (placed (e + 1) (drop (e + 1) s))) (numbered (some n) (dataShape (rule .store) (rule .form) (fields (drop (e + 1) s))))
     unfolding here placed
     followed z =
         answer-is (here ∷ placed (e + 1) (drop (e + 1) s)) (rw q (placed-next s i h (λ d. z (q ∙ d))))
@@ -75,23 +71,23 @@ module _ (rule : Rule) (s : List ℕ) (i : ℕ) where
 
     -- fields lack, or there is one too many
     lacks : rule .store ≡ true → e ≡ length s → Malformed e ≡ shapeIn rule s i
-    lacks t z = let d = no-data e rule in sym (alone z ∙ rw (t, d .0, d .1))
+    lacks t z = let d = no-fields e (rule .form) in sym (alone z ∙ rw (t, d .0, d .1))
 
     surplus : rule .store ≡ false → (e ≡ length s → ⊥) → Malformed (e + 1) ≡ shapeIn rule s i
     unfolding fields placed
     surplus t z = sym (followed z ∙ rw (t, offending-none (length s) (placed (e + 1) (drop (e + 1) s))))
 
     -- no data are given, or the data decide
-    bare : rule .store ≡ false → e ≡ length s → Of n (one (pos 0)) e ≡ shapeIn rule s i
+    bare : rule .store ≡ false → e ≡ length s → Of n payload.None e ≡ shapeIn rule s i
     bare t z = sym (alone z ∙ rw t)
 
-    module _ (t : rule .store ≡ true) (z : e ≡ length s → ⊥) {v : Values} (a : v ≡ dataAt (rule .kind) s (e + 1)) where
-      given : {r : Row} → v ≡ values.Of r → Of n r (e + 1) ≡ shapeIn rule s i
-      given d = sym (followed z ∙ rw (t, values-some _ (readData (rule .kind) (fields (drop (e + 1) s))) a d))
+    module _ (t : rule .store ≡ true) (z : e ≡ length s → ⊥) {v : DataRead} (a : v ≡ dataIn (rule .form) s (e + 1)) where
+      given : {r : Payload} → v ≡ answer-for.Of r → Of n r (e + 1) ≡ shapeIn rule s i
+      given d = sym (followed z ∙ rw (t, data-some _ (readData (rule .form) (fields (drop (e + 1) s))) a d))
 
-      wrong : {p : ℕ} → v ≡ values.Malformed p → Malformed p ≡ shapeIn rule s i
+      wrong : {p : ℕ} → v ≡ answer-for.Malformed p → Malformed p ≡ shapeIn rule s i
       wrong d =
-          let w = values-none _ (readData (rule .kind) (fields (drop (e + 1) s))) a d in
+          let w = data-none _ (readData (rule .form) (fields (drop (e + 1) s))) a d in
           sym (followed z ∙ rw (t, w .0, w .1))
 
 -- ---- the number as it was read
@@ -123,14 +119,14 @@ returns-3 c =
     let d = c .before .before .before in
     let n = d .before .before .before .before in
     let a = start n .args in
-    given (a .rule) (a .s .now) (a .from) (start n .pre) (number n) (ends n) (d .before .if3 .taken) (d .before .before .if1 .left) (d .read-data .ensures) (c .before .values .given .1)
+    given (a .rule) (a .s .now) (a .from) (start n .pre) (number n) (ends n) (d .before .if3 .taken) (d .before .before .if1 .left) (d .read-data .ensures) (c .before .read .given .1)
 
 returns-4 : tie.Need-returns-4
 returns-4 c =
     let d = c .before .before .before in
     let n = d .before .before .before .before in
     let a = start n .args in
-    wrong (a .rule) (a .s .now) (a .from) (start n .pre) (number n) (ends n) (d .before .if3 .taken) (d .before .before .if1 .left) (d .read-data .ensures) (c .before .values2 .given .1)
+    wrong (a .rule) (a .s .now) (a .from) (start n .pre) (number n) (ends n) (d .before .if3 .taken) (d .before .before .if1 .left) (d .read-data .ensures) (c .before .read2 .given .1)
 
 returns-5 : tie.Need-returns-5
 returns-5 c =

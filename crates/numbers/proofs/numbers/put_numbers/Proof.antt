@@ -1,16 +1,16 @@
 -- The invariant: what is left of the text, written at `end` of the area as it is now and taken into its sum, gives what
 -- all of it gives.
 use Prim.Native.Nat.{ℕ, _+_, _-_, _≤_, _<_}
-use mathlib.Core.Path.{_≡_, refl, sym, ap, _∙_}
+use mathlib.Core.Path.{_≡_, ap, _∙_}
 use mathlib.Core.List.{List, [], _∷_, _++_, map}
 use native.Mathlib.Omega.{arith}
 use borrow.Author.Needs.{needs}
 use lib.IntN.{ℤ, pos}
 use lib.ListN.{length, getD, take, drop, length-append}
-use lib.Seq.{sets}
-use Rattle.text.specs.Put.{Put, xorOnto}
+use Rattle.text.specs.Put.{Put}
 use Rattle.text.specs.declared.put.Cursor.{Cursor}
-use Rattle.text.proofs.Laws.{put-then, sets-append, xor-append}
+use Rattle.text.proofs.Laws.{put-then}
+use Rattle.text.proofs.Parts.{Left, begun, moved, done}
 use Rattle.text.proofs.Signed.{i32-back}
 use Rattle.frame.specs.Fields.{following, spaced}
 use Rattle.commands.specs.declared.table.Kind.{Kind}
@@ -21,29 +21,6 @@ use Rattle.numbers.specs.Numbers.{fieldText, numbersText}
 use Rattle.numbers.proofs.Bounds.{some-value, few-values, left-at, none-left}
 use Rattle.numbers.proofs.numbers.put_numbers.Statement.{statement}
 use Rattle.numbers.proofs.numbers.put_numbers.Tie as tie
-
--- ---- a text written in parts
-
--- the area ys, with what is left written at p, is xs with the whole text at `to`
-record Left (xs : List ℕ) (to : Cursor) (whole ys : List ℕ) (p : Cursor) (left : List ℕ) : Type 0 where
-  size : length ys ≡ length xs
-  next : p .at + length left ≡ to .at + length whole
-  sum : xorOnto (p .sum) left ≡ xorOnto (to .sum) whole
-  area : sets ys (p .at) left ≡ sets xs (to .at) whole
-
--- a part is written
-moved : {xs : List ℕ} {to : Cursor} {whole ys : List ℕ} {p : Cursor} (us : List ℕ) {left : List ℕ} {q : Cursor} {zs : List ℕ} → Left xs to whole ys p (us ++ left) → Put ys p us q zs → length zs ≡ length ys → Left xs to whole zs q left
-moved {ys = ys} {p = p} us {left} h w l = record {
-  size = l ∙ h .size;
-  next = omega (arith, h .next, w .next, length-append us left);
-  sum = simp (w .sum) (sym (xor-append (p .sum) us left) ∙ h .sum);
-  area = simp (w .area, w .next) (sym (sets-append ys (p .at) us left) ∙ h .area);
-}
-
--- nothing is left
-done : {xs : List ℕ} {to : Cursor} {whole ys : List ℕ} {p : Cursor} → Left xs to whole ys p [] → Put xs to whole p ys
-unfolding xorOnto
-done h = record { next = omega (arith, h .next); sum = h .sum; area = h .area }
 
 -- ---- the text of the first n of vs
 
@@ -114,7 +91,7 @@ loop-holds : tie.Need-loop-holds Inv-loop μ-loop
 loop-holds c =
     let n = c .before .before .before .before .before in
     let s = n .before .before .before in
-    (some (s .args .kind) (s .args .row) (n .before .fields-of .ensures) (n .count-of .ensures), record { size = refl; next = refl; sum = refl; area = refl })
+    (some (s .args .kind) (s .args .row) (n .before .fields-of .ensures) (n .count-of .ensures), begun)
 
 put-byte-requires : tie.Need-put-byte-requires Inv-loop μ-loop
 put-byte-requires c κs =

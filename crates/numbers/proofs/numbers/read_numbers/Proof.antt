@@ -1,25 +1,24 @@
 -- The invariant: the fields that are left, read into the array as it is now from value i on, give what all of them give.
 use Prim.Native.Nat.{ℕ, zero, suc, _+_, _-_, _≤_, _<_}
 use mathlib.Core.Path.{_≡_, refl, sym, ap, _∙_}
-use mathlib.Core.Bool.{Bool, true, cond}
+use mathlib.Core.Bool.{Bool, true}
 use mathlib.Core.List.{List, [], _∷_, map}
 use mathlib.Core.Option.{Option, none, some, Option·map}
 use native.Mathlib.Omega.{arith}
-use native.Mathlib.Decide.{ℕ-discrete}
 use native.Mathlib.Numerals.{add-one}
 use native.Mathlib.Nat.{sub-zero}
-use borrow.Author.Tests.{le-ltb, lt-ltb}
 use borrow.Author.Needs.{needs}
-use lib.Arith.{lt-of-le-ne}
-use lib.Dec.{ltb, eqb}
+use lib.Dec.{eqb}
 use lib.IntN.{ℤ, pos}
 use lib.ListN.{length, set, drop, replicate, length-drop}
 use lib.Seq.{sets}
 use Rattle.text.specs.Scan.{fieldAt, endAt}
+use Rattle.text.proofs.Laws.{sets-out}
 use Rattle.text.proofs.Fields.{until-within}
 use Rattle.text.proofs.Signed.{i32-back}
-use Rattle.frame.specs.Fields.{fields, Placed, placed, offending, withFirst, readFields, readsAs}
-use Rattle.frame.proofs.Placed.{placed-texts, placed-only, placed-next, offending-none, offending-lack, offending-next}
+use Rattle.frame.specs.Fields.{fields, Placed, offending, withFirst, readFields, readsAs}
+use Rattle.frame.proofs.Placed.{placed-texts, offending-none, offending-lack, offending-next}
+use Rattle.frame.proofs.Spaced.{left, some-left, none-left, next-left}
 use Rattle.commands.specs.declared.table.Kind.{Kind}
 use Rattle.commands.specs.declared.request.Row.{Row}
 use Rattle.commands.specs.Request.{rowOf}
@@ -31,45 +30,11 @@ use Rattle.numbers.proofs.Bounds.{few-values, told-some, told-none}
 use Rattle.numbers.proofs.numbers.read_numbers.Statement.{statement}
 use Rattle.numbers.proofs.numbers.read_numbers.Tie as tie
 
--- ---- the fields that are left where the next one starts at p: none past the end
-
-left : List ℕ → ℕ → List Placed
-left s p = cond (ltb (length s) p) [] (placed p (drop p s))
-
-module _ (s : List ℕ) (p : ℕ) where
-  some-left : p ≤ length s → left s p ≡ placed p (drop p s)
-  unfolding left
-  some-left h = rw (le-ltb (length s) p h)
-
-  none-left : length s < p → left s p ≡ []
-  unfolding left
-  none-left h = rw (lt-ltb (length s) p h)
-
--- the next field, and those behind it
-next-left : (s : List ℕ) (p : ℕ) → p ≤ length s → left s p ≡ record { position = p; text = fieldAt s p } ∷ left s (endAt s p + 1)
-next-left s p h = some-left s p h ∙ go (ℕ-discrete (endAt s p) (length s))
-  where
-    go : Dec (endAt s p ≡ length s) → placed p (drop p s) ≡ record { position = p; text = fieldAt s p } ∷ left s (endAt s p + 1)
-    go (yes z) = placed-only s p h z ∙ rw (none-left s (endAt s p + 1) (omega arith))
-    go (no n) =
-        let l : endAt s p < length s = lt-of-le-ne (omega (arith, length-drop p s, until-within (λ b. eqb b 32) (drop p s))) n in
-        placed-next s p h n ∙ rw (some-left s (endAt s p + 1) (omega arith))
-
 -- ---- values read into an array from index i on
 
 filled : List ℤ → ℕ → Option (List ℤ) → Option Row
 filled xs i (some vs) = some (rowOf (sets xs i vs))
 filled xs i none = none
-
--- an index past the end sets nothing
-set-past : (xs : List ℤ) (i : ℕ) (v : ℤ) → length xs ≤ i → set xs i v ≡ xs
-set-past [] i v h = refl
-set-past (x ∷ xs) zero v h = absurd (omega arith)
-set-past (x ∷ xs) (suc i) v h = ap (λ t. x ∷ t) (set-past xs i v (omega arith))
-
-sets-past : (xs : List ℤ) (i : ℕ) (vs : List ℤ) → length xs ≤ i → sets xs i vs ≡ xs
-sets-past xs i [] h = refl
-sets-past xs i (v ∷ vs) h = rw (set-past xs i v h) (sets-past xs (suc i) vs (omega arith))
 
 abbrev zeros : List ℤ
 zeros = pos 0 ∷ pos 0 ∷ pos 0 ∷ pos 0 ∷ []
@@ -79,7 +44,7 @@ row-filled [] = refl
 row-filled (x ∷ []) = refl
 row-filled (x ∷ y ∷ []) = refl
 row-filled (x ∷ y ∷ z ∷ []) = refl
-row-filled (x ∷ y ∷ z ∷ w ∷ vs) = rw (sets-past (x ∷ y ∷ z ∷ w ∷ []) 4 vs (omega arith))
+row-filled (x ∷ y ∷ z ∷ w ∷ vs) = rw (sets-out (x ∷ y ∷ z ∷ w ∷ []) 4 vs (omega arith))
 
 all-filled : (o : Option (List ℤ)) → Option·map rowOf o ≡ filled zeros 0 o
 unfolding filled
