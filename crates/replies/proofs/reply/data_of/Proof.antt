@@ -1,49 +1,21 @@
 use borrow.Author.Needs.{needs}
-use Rattle.text.proofs.Signed.{i32-back}
 use Rattle.replies.proofs.reply.data_of.Statement.{statement}
 use Rattle.replies.proofs.reply.data_of.Tie as tie
 
-enum-told : tie.Need-enum-told
-enum-told c = search needs
-
-enum-told-2 : tie.Need-enum-told-2
-enum-told-2 c = search needs
-
-enum-told-3 : tie.Need-enum-told-3
-enum-told-3 c = search needs
-
-enum-told-4 : tie.Need-enum-told-4
-enum-told-4 c = search needs
-
-enum-told-5 : tie.Need-enum-told-5
-enum-told-5 c = search needs
-
 returns : tie.Need-returns
-returns c = rw (c .enum-told .given .1, i32-back (c .before .before .before .args .row .x) (c .before .before .struct-told .given .0 .1))
+returns c = rw (c .before .before .before .form .given .1, ← c .before .row-in .ensures) (c .numbers-of .ensures)
 
 returns-2 : tie.Need-returns-2
-returns-2 c = rw (c .enum-told2 .given .1, i32-back (c .before .before .before .args .row .x) (c .before .before .struct-told .given .0 .1))
-
-returns-3 : tie.Need-returns-3
-returns-3 c = rw (c .enum-told3 .given .1)
-
-returns-4 : tie.Need-returns-4
-returns-4 c = rw (c .enum-told4 .given .1, i32-back (c .before .before .before .args .row .x) (c .before .before .struct-told .given .0 .1))
-
-returns-5 : tie.Need-returns-5
-returns-5 c = rw (c .enum-told5 .given .1, i32-back (c .before .before .before .args .row .x) (c .before .before .struct-told .given .0 .1))
+returns-2 c = rw (c .before .enum-told .given .1, ← c .step-in .ensures)
 
 pub data-of-spec : {M : Type 1} → statement M
 data-of-spec =
     tie.close
     (tie.spec
-    enum-told
-    enum-told-2
-    enum-told-3
-    enum-told-4
-    enum-told-5
+    (λ c. search needs)
+    (λ c κs. search needs)
+    (λ c κs. search needs)
+    (λ c. search needs)
+    (λ c κs. search needs)
     returns
-    returns-2
-    returns-3
-    returns-4
-    returns-5)
+    returns-2)

@@ -1,7 +1,7 @@
 use native.Mathlib.Omega.{arith}
 use borrow.Author.Tests.{eq-eqb, ne-eqb}
 use borrow.Author.Needs.{needs}
-use Rattle.replies.proofs.Bodies.{status-length}
+use Rattle.replies.proofs.Texts.{status-length}
 use Rattle.replies.proofs.reply.put_refusal.Statement.{statement}
 use Rattle.replies.proofs.reply.put_refusal.Tie as tie
 
