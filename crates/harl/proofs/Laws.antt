@@ -9,8 +9,9 @@ use lib.Dec.{eqb}
 use lib.ListN.{length}
 use Rattle.text.specs.Put.{PutAt}
 use Rattle.frame.specs.Frame.{readFrame}
-use Rattle.commands.specs.declared.table.Kind.{Kind}
 use Rattle.commands.specs.declared.table.Kind.the-variants.{Timer, Register, Row, Signal, Port}
+use Rattle.commands.specs.declared.table.Form.{Form}
+use Rattle.commands.specs.declared.table.Form.the-variants.{Numbers, Texts}
 use Rattle.commands.specs.declared.table.Rule.{Rule}
 use Rattle.bodies.specs.declared.body.Judged.{Judged}
 use Rattle.bodies.specs.declared.body.Judged.the-variants as judged
@@ -18,10 +19,10 @@ use Rattle.bodies.specs.declared.body.JudgedBody.{JudgedBody}
 use Rattle.replies.specs.declared.reply.Content.{Content}
 use Rattle.replies.specs.declared.reply.Data.{Data}
 use Rattle.replies.specs.declared.reply.Outcome.the-variants as outcome
-use Rattle.numbers.specs.Ranges.{allInRange}
+use Rattle.data.specs.Ranges.{inRanges}
 use Rattle.bodies.specs.Body.{readBody}
 use Rattle.bodies.specs.Position.{bodyPosition, judgedAt}
-use Rattle.replies.specs.Reply.{contentOf, codeOf, dataFit, judgeOutcome}
+use Rattle.replies.specs.Reply.{contentOf, codeOf, numberFits, contentFits, judgeOutcome}
 use Rattle.harl.specs.declared.message.Sent.{Sent}
 use Rattle.harl.specs.Message.{unsent, Wrote}
 
@@ -38,39 +39,43 @@ neither false t e = (refl, e)
 
 -- ---- data that answer a command
 
--- a kind is known by its number
-pub kind-is : (k j : Kind) → codeOf k ≡ codeOf j → k ≡ j
-kind-is k j e = sym (back k) ∙ ap kindOf e ∙ back j
+-- a form is known by its number
+pub form-is : (f g : Form) → codeOf f ≡ codeOf g → f ≡ g
+form-is f g e = sym (back f) ∙ ap formOf e ∙ back g
   where
-    kindOf : ℕ → Kind
-    kindOf zero = Timer
-    kindOf (suc zero) = Register
-    kindOf (suc (suc zero)) = Row
-    kindOf (suc (suc (suc zero))) = Signal
-    kindOf (suc (suc (suc (suc n)))) = Port
+    formOf : ℕ → Form
+    formOf zero = Numbers Timer
+    formOf (suc zero) = Numbers Register
+    formOf (suc (suc zero)) = Numbers Row
+    formOf (suc (suc (suc zero))) = Numbers Signal
+    formOf (suc (suc (suc (suc zero)))) = Numbers Port
+    formOf (suc (suc (suc (suc (suc n))))) = Texts
 
-    back : (k : Kind) → kindOf (codeOf k) ≡ k
-    back Timer = refl
-    back Register = refl
-    back Row = refl
-    back Signal = refl
-    back Port = refl
+    back : (f : Form) → formOf (codeOf f) ≡ f
+    back (Numbers Timer) = refl
+    back (Numbers Register) = refl
+    back (Numbers Row) = refl
+    back (Numbers Signal) = refl
+    back (Numbers Port) = refl
+    back Texts = refl
 
--- what data meet that a reply may carry: they answer an LN of their kind, and are in range
-pub record Fitting (rule : Rule) (content : Content) : Type 0 where
+-- what data meet that may reply to a request for a number: they answer an LN of their form, and are in range
+pub record Fitting (rule : Rule) (asked : ℕ) (content : Content) : Type 0 where
   pub loads : rule .store ≡ false
-  pub kind : content .kind ≡ rule .kind
-  pub range : allInRange (rule .kind) (content .row) ≡ true
+  pub form : content .form ≡ rule .form
+  pub number : numberFits (rule .form) asked (content .number) ≡ true
+  pub range : inRanges (rule .form) (content .payload) ≡ true
 
-pub fitting : (rule : Rule) (d : Data) → judgeOutcome rule (outcome.Data d) ≡ 0 → Fitting rule (contentOf d)
-unfolding judgeOutcome dataFit
-fitting rule d = go (rule .store) (eqb (codeOf (contentOf d .kind)) (codeOf (rule .kind))) (allInRange (rule .kind) (contentOf d .row)) refl refl refl
+pub fitting : (rule : Rule) (asked : ℕ) (d : Data) → judgeOutcome rule asked (outcome.Data d) ≡ 0 → Fitting rule asked (contentOf d)
+unfolding judgeOutcome contentFits
+fitting rule asked d = go (rule .store) (eqb (codeOf (contentOf d .form)) (codeOf (rule .form))) (numberFits (rule .form) asked (contentOf d .number)) (inRanges (rule .form) (contentOf d .payload)) refl refl refl refl
   where
-    go : (s t u : Bool) → rule .store ≡ s → eqb (codeOf (contentOf d .kind)) (codeOf (rule .kind)) ≡ t → allInRange (rule .kind) (contentOf d .row) ≡ u → _≡_ {A = ℕ} (cond (cond s false (t && u)) 0 12) 0 → Fitting rule (contentOf d)
-    go true t u p q r e = absurd (omega arith)
-    go false false u p q r e = absurd (omega arith)
-    go false true false p q r e = absurd (omega arith)
-    go false true true p q r e = record { loads = p; kind = kind-is _ _ (eqb-true _ _ q); range = r }
+    go : (s t u v : Bool) → rule .store ≡ s → eqb (codeOf (contentOf d .form)) (codeOf (rule .form)) ≡ t → numberFits (rule .form) asked (contentOf d .number) ≡ u → inRanges (rule .form) (contentOf d .payload) ≡ v → _≡_ {A = ℕ} (cond (cond s false (t && (u && v))) 0 12) 0 → Fitting rule asked (contentOf d)
+    go true t u v p q r w e = absurd (omega arith)
+    go false false u v p q r w e = absurd (omega arith)
+    go false true false v p q r w e = absurd (omega arith)
+    go false true true false p q r w e = absurd (omega arith)
+    go false true true true p q r w e = record { loads = p; form = form-is _ _ (eqb-true _ _ q); number = r; range = w }
 
 -- ---- what the reader of a body answers
 

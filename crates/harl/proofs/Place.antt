@@ -9,6 +9,7 @@ use lib.Dec.{eqb}
 use Rattle.frame.specs.Frame.{Reading, readFrame, framePosition}
 use Rattle.frame.proofs.Placed.{passed, frame-number, body-place, which-stray}
 use Rattle.commands.specs.declared.request.Request.{Request}
+use Rattle.commands.specs.Request.{partsOf}
 use Rattle.numbers.proofs.Where.{false-true}
 use Rattle.replies.specs.declared.reply.Carried.{Carried}
 use Rattle.replies.specs.declared.reply.Carried.the-variants as carried
@@ -121,6 +122,6 @@ requests-told s = request-told s (eqb (readFrame s .number) 0) refl
 pub replies-told : (s : List ℕ) (station : ℕ) (r : Request) → RepliesTold s station r
 unfolding readReply
 replies-told s station r = record {
-  judged = λ e. rw e (reply-told s (eqb (readFrame s .number) 0) (eqb (readFrame s .station) station) (readOutcome (ruleFor r) (readFrame s .body)));
+  judged = λ e. rw e (reply-told s (eqb (readFrame s .number) 0) (eqb (readFrame s .station) station) (readOutcome (ruleFor r) (partsOf r .number) (readFrame s .body)));
   refused = λ h. rw (ne-eqb (judgeAsked station r) 0 h);
 }

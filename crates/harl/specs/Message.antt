@@ -33,7 +33,7 @@ ruleFor r = ruleOf (partsOf r .command)
 
 -- 11 NUMBER, 12 VALUE of a typed request; 0 where neither is given
 abbrev pub judgeRequest : Request → ℕ
-judgeRequest r = judge (ruleFor r) (partsOf r .number) (partsOf r .values)
+judgeRequest r = judge (ruleFor r) (partsOf r .number) (partsOf r .payload)
 
 -- 7 STATION, then those
 unfoldable pub judgeAsked : ℕ → Request → ℕ
@@ -111,7 +111,7 @@ writeRequest room station r =
 unfoldable pub judgeReply : ℕ → ℕ → Request → Outcome → ℕ
 judgeReply room station r o =
     cond (ltb room 64) 1
-    (cond (eqb (judgeAsked station r) 0) (judgeOutcome (ruleFor r) o) (judgeAsked station r))
+    (cond (eqb (judgeAsked station r) 0) (judgeOutcome (ruleFor r) (partsOf r .number) o) (judgeAsked station r))
 
 unfoldable pub writeReply : ℕ → ℕ → Request → Outcome → Message
 writeReply room station r o = message (judgeReply room station r o) (frameOf station (outcomeText (ruleFor r .store) o))
@@ -147,7 +147,7 @@ fromCarried carried.Nothing = noOutcome 15 0
 abbrev pub replyIn : List ℕ → Reading → ℕ → Request → ReplyReading
 replyIn slice o station r =
     cond (eqb (o .number) 0)
-    (cond (eqb (o .station) station) (fromCarried (readOutcome (ruleFor r) (o .body))) (noOutcome 15 0))
+    (cond (eqb (o .station) station) (fromCarried (readOutcome (ruleFor r) (partsOf r .number) (o .body))) (noOutcome 15 0))
     (noOutcome (o .number) (framePosition slice (o .number)))
 
 -- 7, 11, 12 of the request, then those of the slice

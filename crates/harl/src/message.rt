@@ -65,8 +65,8 @@ fn judge_asked(station: u8, request: Request) -> u8
     let parts = parts_of(request);
     let command = parts.command;
     let number = parts.number;
-    let row = parts.values;
-    judge_parts(rule_of(command), number, row)
+    let payload = parts.payload;
+    judge_parts(rule_of(command), number, payload)
 }
 
 // Reads a request: checks 2 to 7, then 9 to 12.
@@ -123,7 +123,7 @@ pub fn write_reply(area: &mut [u8], station: u8, request: Request, outcome: Outc
     let parts = parts_of(request);
     let command = parts.command;
     let rule = rule_of(command);
-    let number = judge_outcome(rule, outcome);
+    let number = judge_outcome(rule, parts.number, outcome);
     if number != 0 {
         return refusal(number, 0);
     }
@@ -157,7 +157,7 @@ pub fn read_reply(slice: &[u8], station: u8, request: Request) -> Answered
     }
     let parts = parts_of(request);
     let command = parts.command;
-    let carried = read_outcome(rule_of(command), body);
+    let carried = read_outcome(rule_of(command), parts.number, body);
     match carried {
         Carried::Outcome(outcome) => Answered::Accepted(outcome),
         Carried::Nothing => Answered::Refused(15, 0),

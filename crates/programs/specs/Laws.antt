@@ -1,4 +1,4 @@
--- What the memory promises (proved in proofs/Memory.antt).
+-- What the memory promises (proved in proofs/Programs.antt).
 use Prim.Native.Nat.{ℕ, _+_, _≤_, _<_}
 use mathlib.Core.Path.{_≡_}
 use mathlib.Core.Bool.{true}

@@ -72,7 +72,7 @@ only-pack (suc k) (b ∷ bs) h e =
     only-more (suc k) (pack (b ∷ bs)) (omega arith) (p .filled) (rw (p .byte) d)
     ∙ rw (p .rest, q) (only-pack k bs (omega arith) (all-rest b bs e))
 
-pack-some : (s : List ℕ) → 1 ≤ length s → allChars s ≡ true → pack s ≡ 0 → ⊥
+pub pack-some : (s : List ℕ) → 1 ≤ length s → allChars s ≡ true → pack s ≡ 0 → ⊥
 pack-some [] h e = absurd (omega arith)
 pack-some (b ∷ bs) h e = cut b bs (all-first b bs e) .filled
 
@@ -165,11 +165,11 @@ step-clean = step-skips isStray (λ b e. rw (le-ltb b 32 (omega (arith, char-low
 
 -- ---- data without a gap
 
-record Data (n : ℕ) (ns : List ℕ) : Type 0 where
-  first : isDatum n (getD ns 0 0) ≡ true
-  rest : areData ns ≡ true
+pub record Data (n : ℕ) (ns : List ℕ) : Type 0 where
+  pub first : isDatum n (getD ns 0 0) ≡ true
+  pub rest : areData ns ≡ true
 
-data-are : (n : ℕ) (ns : List ℕ) → areData (n ∷ ns) ≡ true → Data n ns
+pub data-are : (n : ℕ) (ns : List ℕ) → areData (n ∷ ns) ≡ true → Data n ns
 unfolding areData
 data-are n ns e = go (isDatum n (getD ns 0 0)) refl e
   where
@@ -182,7 +182,7 @@ datum-none : (n next : ℕ) → isDatum n next ≡ true → n ≡ 0 → next ≡
 unfolding isDatum
 datum-none n next e z = eqb-true next 0 (rw (eq-eqb n 0 z) at e)
 
-datum-text : (n next : ℕ) → isDatum n next ≡ true → (n ≡ 0 → ⊥) → isText n ≡ true
+pub datum-text : (n next : ℕ) → isDatum n next ≡ true → (n ≡ 0 → ⊥) → isText n ≡ true
 unfolding isDatum
 datum-text n next e z = rw (ne-eqb n 0 z) at e
 
@@ -261,11 +261,11 @@ step-fields s =
     fields-spaced (charsOf (s .command .0)) (map charsOf (upTo (drop 1 (packed s))))
     (chars-solid (s .command .0), each-map (Skips (λ b. eqb b 32)) charsOf chars-solid (upTo (drop 1 (packed s))))
 
-record Sound (s : Step) : Type 0 where
-  command : isText (s .command .0) ≡ true
-  rest : areData (drop 1 (packed s)) ≡ true
+pub record Sound (s : Step) : Type 0 where
+  pub command : isText (s .command .0) ≡ true
+  pub rest : areData (drop 1 (packed s)) ≡ true
 
-sound : (s : Step) → isStep s ≡ true → Sound s
+pub sound : (s : Step) → isStep s ≡ true → Sound s
 unfolding isStep
 sound s e = go (isText (s .command .0)) refl e
   where
@@ -306,7 +306,7 @@ pub texts-back : TextsBack
 unfolding typedOf
 texts-back s e = rw (texts-are s, pack-texts (numbers s) (numbers-texts s e)) (step-from s e)
 
-typed : (ns : List ℕ) → map (λ t. t .0) (map text ns) ≡ ns
+pub typed : (ns : List ℕ) → map (λ t. t .0) (map text ns) ≡ ns
 typed [] = refl
 typed (n ∷ ns) = ap (λ ms. n ∷ ms) (typed ns)
 
@@ -343,7 +343,7 @@ data-texts (t ∷ u ∷ v ∷ w ∷ ts) a =
     (more-data (u .0) (v .0 ∷ w .0 ∷ []) (a .1 .0)
     (more-data (v .0) (w .0 ∷ []) (a .1 .1 .0) (more-data (w .0) [] (a .1 .1 .1 .0) refl)))
 
-step-texts : (ts : List Text) → 1 ≤ length ts → Each (λ t. isText (t .0) ≡ true) ts → isStep (stepFrom (map (λ t. t .0) ts)) ≡ true
+pub step-texts : (ts : List Text) → 1 ≤ length ts → Each (λ t. isText (t .0) ≡ true) ts → isStep (stepFrom (map (λ t. t .0) ts)) ≡ true
 unfolding isStep
 step-texts [] h a = absurd (omega arith)
 step-texts (t ∷ ts) h a = rw (a .0) (data-texts ts (a .1))

@@ -25,7 +25,7 @@ judge-parts-requires c κs = search needs
 returns-3 : tie.Need-returns-3
 unfolding judgeAsked
 returns-3 c =
-    let p = c .before .before .before in
+    let p = c .before .before in
     rw (ne-eqb _ _ (p .before .before .if1 .left), le-ltb _ _ (p .before .if2 .left), ← p .parts-of .ensures, ← c .before .rule-of .ensures) (c .judge-parts .ensures)
 
 pub judge-asked-spec : {M : Type 1} → statement M

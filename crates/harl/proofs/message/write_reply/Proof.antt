@@ -10,7 +10,8 @@ use Rattle.frame.specs.Frame.{frameOf}
 use Rattle.frame.proofs.Writing.{opening-length, framed}
 use Rattle.replies.specs.Reply.{judgeOutcome, outcomeText}
 use Rattle.harl.specs.Message.{judgeReply, writeReply}
-use Rattle.bodies.proofs.Bodies.{outcome-length, frame-fits}
+use Rattle.frame.proofs.Short.{frame-fits}
+use Rattle.replies.proofs.Texts.{outcome-length}
 use Rattle.harl.proofs.Laws.{wrote-none, wrote-all}
 use Rattle.harl.proofs.message.write_reply.Statement.{statement}
 use Rattle.harl.proofs.message.write_reply.Tie as tie
@@ -80,8 +81,8 @@ returns-4 c =
     let j = p .before .before in
     let a = j .before .before .before .args in
     let rule = v .before .rule-of .result in
-    let z : judgeOutcome rule (a .outcome) ≡ 0 = sym (v .judge-outcome .ensures) ∙ o .before .before .if3 .left in
-    let short : length (outcomeText (rule .store) (a .outcome)) ≤ 45 = omega (arith, outcome-length (rule .store) (a .outcome) .1) in
+    let z : judgeOutcome rule (p .parts-of .result .number) (a .outcome) ≡ 0 = sym (v .judge-outcome .ensures) ∙ o .before .before .if3 .left in
+    let short : length (outcomeText (rule .store) (a .outcome)) ≤ 56 = omega (arith, outcome-length (rule .store) (a .outcome) .1) in
     rw (le-ltb _ _ (j .before .if1 .left), ← j .judge-asked .ensures, eq-eqb _ _ (p .before .if2 .left), ← p .parts-of .ensures, ← v .before .rule-of .ensures, z)
     (let fits : length (frameOf (a .station) (outcomeText (rule .store) (a .outcome))) ≤ length (a .area .now) = omega (arith, frame-fits (a .station) (outcomeText (rule .store) (a .outcome)) short) in
     wrote-all (framed (a .station) (o .open-frame .ensures) (b .put-outcome .ensures) (f .close-frame .ensures)) fits)

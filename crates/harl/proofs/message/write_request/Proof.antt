@@ -10,7 +10,8 @@ use Rattle.frame.specs.Frame.{frameOf}
 use Rattle.frame.proofs.Writing.{opening-length, framed}
 use Rattle.bodies.specs.Body.{bodyText}
 use Rattle.harl.specs.Message.{writeRequest, judgeAsked}
-use Rattle.bodies.proofs.Bodies.{body-length, frame-fits}
+use Rattle.frame.proofs.Short.{frame-fits}
+use Rattle.bodies.proofs.Bodies.{body-length}
 use Rattle.harl.proofs.Laws.{wrote-none, wrote-all}
 use Rattle.harl.proofs.message.write_request.Statement.{statement}
 use Rattle.harl.proofs.message.write_request.Tie as tie
