@@ -41,6 +41,7 @@ fn answer_block(
     outputs: &mut [[u8; 32]; 4],
     memory: &mut [[u8; 16]; 4],
     on: &mut [u16; 4],
+    programs: &mut [u8],
     stations: &[u8; 4],
     input: &[u8],
     held: &mut [u8],
@@ -49,7 +50,7 @@ fn answer_block(
 ) -> Progress
     requires { ⌜ Within (now held) (now out) start ⌝ }
     requires { ⌜ start .waiting + 132 ≤ 65536 ⌝ }
-    ensures { λ r. ⌜ BlockTaken (cellOf (now (stations .entry)) (tables (now (timers .entry)) (now (registers .entry)) (now (x .entry)) (now (y .entry)) (now (z .entry)) (now (w .entry)) (now (inputs .entry)) (now (outputs .entry)) (now (memory .entry)) (now (on .entry))) (now (held .entry)) (now (out .entry)) start) (now (input .entry)) (cellOf (now (stations .entry)) (tables (now (timers .exit)) (now (registers .exit)) (now (x .exit)) (now (y .exit)) (now (z .exit)) (now (w .exit)) (now (inputs .exit)) (now (outputs .exit)) (now (memory .exit)) (now (on .exit))) (now (held .exit)) (now (out .exit)) r) ⌝ }
+    ensures { λ r. ⌜ BlockTaken (cellOf (now (stations .entry)) (tables (now (timers .entry)) (now (registers .entry)) (now (x .entry)) (now (y .entry)) (now (z .entry)) (now (w .entry)) (now (inputs .entry)) (now (outputs .entry)) (now (memory .entry)) (now (on .entry)) (now (programs .entry))) (now (held .entry)) (now (out .entry)) start) (now (input .entry)) (cellOf (now (stations .entry)) (tables (now (timers .exit)) (now (registers .exit)) (now (x .exit)) (now (y .exit)) (now (z .exit)) (now (w .exit)) (now (inputs .exit)) (now (outputs .exit)) (now (memory .exit)) (now (on .exit)) (now (programs .exit))) (now (held .exit)) (now (out .exit)) r) ⌝ }
     ensures { λ r. ⌜ Within (now (held .exit)) (now (out .exit)) r ⌝ }
     ensures { λ r. ⌜ r .waiting + 132 ≤ 65536 ⌝ }
 {
@@ -67,6 +68,7 @@ fn answer_block(
             outputs,
             memory,
             on,
+            programs,
             stations,
             &input[i..],
             held,
@@ -105,6 +107,7 @@ fn answer_blocks(
     outputs: &mut [[u8; 32]; 4],
     memory: &mut [[u8; 16]; 4],
     on: &mut [u16; 4],
+    programs: &mut [u8],
     stations: &[u8; 4],
     input: &mut [u8],
     held: &mut [u8],
@@ -131,6 +134,7 @@ fn answer_blocks(
             outputs,
             memory,
             on,
+            programs,
             stations,
             front(input, n),
             held,
@@ -155,6 +159,7 @@ fn answer_rest(
     outputs: &mut [[u8; 32]; 4],
     memory: &mut [[u8; 16]; 4],
     on: &mut [u16; 4],
+    programs: &mut [u8],
     stations: &[u8; 4],
     held: &[u8],
     out: &mut [u8],
@@ -174,6 +179,7 @@ fn answer_rest(
         outputs,
         memory,
         on,
+        programs,
         stations,
         held,
         out,
@@ -194,6 +200,7 @@ fn answer_all(
     outputs: &mut [[u8; 32]; 4],
     memory: &mut [[u8; 16]; 4],
     on: &mut [u16; 4],
+    programs: &mut [u8],
     stations: &[u8; 4],
 ) {
     let mut input = io::large_buffer();
@@ -210,6 +217,7 @@ fn answer_all(
         outputs,
         memory,
         on,
+        programs,
         stations,
         &mut input[..],
         &mut held[..],
@@ -226,6 +234,7 @@ fn answer_all(
         outputs,
         memory,
         on,
+        programs,
         stations,
         &held[..],
         &mut out[..],
@@ -245,6 +254,7 @@ fn main() {
     let mut outputs = [[0u8; 32]; 4];
     let mut memory = [[0u8; 16]; 4];
     let mut on = [0u16; 4];
+    let mut programs = [0u8; 40960];
     let mut stations = [0u8; 4];
     setup(
         &mut timers,
@@ -257,6 +267,7 @@ fn main() {
         &mut outputs,
         &mut memory,
         &mut on,
+        &mut programs[..],
         &mut stations,
         [1, 2, 3, 4],
     );
@@ -271,6 +282,7 @@ fn main() {
         &mut outputs,
         &mut memory,
         &mut on,
+        &mut programs[..],
         &stations,
     );
 }

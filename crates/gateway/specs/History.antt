@@ -62,7 +62,7 @@ unfoldable pub seenBy : ℕ → List ℕ → List Made → List Answer
 seenBy k st [] = []
 seenBy k st (m ∷ ms) = cond (isFor k st (callOf m)) (seen m ∷ seenBy k st ms) (seenBy k st ms)
 
--- each fitted arm's tables and answers, as the program saw them, are those of its lone box (proved in
+-- each fitted arm's tables, steps and answers, as the program saw them, are those of its lone box (proved in
 -- proofs/History.antt)
 pub record Alone (b : Box) (k : ℕ) (ms : List Made) : Type 0 where
   pub tables : armOf k (last b ms) ≡ runLone (getD (b .stations) k 0) zeroArm (eventsFor k (b .stations) (map callOf ms))
@@ -70,6 +70,6 @@ pub record Alone (b : Box) (k : ℕ) (ms : List Made) : Type 0 where
 
 abbrev pub CodeIsolated : Type 0
 CodeIsolated =
-    (want : List ℕ) (number : ℕ) (st : List ℕ) (t : Tables) (ms : List Made)
-    → SetUp want number st t → History (box st t) ms
+    (want m : List ℕ) (number : ℕ) (st : List ℕ) (t : Tables) (ms : List Made)
+    → SetUp want m number st t → History (box st t) ms
     → (k : ℕ) → Fitted k st → Alone (box st t) k ms

@@ -9,6 +9,7 @@ use frame::writer::close_frame;
 use frame::writer::open_frame;
 use harl::message::Sent;
 use harl::message::refusal;
+use programs::memory::SIZE;
 use tables::perform::perform;
 ghost use mathlib.Core.Path.{_≡_};
 ghost use Prim.Native.Nat.{_≤_, _<_};
@@ -16,8 +17,9 @@ ghost use lib.ListN.{length};
 ghost use Rattle.text.specs.Put.{PutAt};
 ghost use Rattle.frame.specs.Frame.{readFrame, frameOf};
 ghost use Rattle.replies.specs.Reply.{performedText, refusalText};
+ghost use Rattle.programs.specs.Memory.{size};
 ghost use Rattle.tables.specs.Tables.{Tables, tables};
-ghost use Rattle.model.specs.Box.{box};
+ghost use Rattle.model.specs.Box.{box, hasRoom};
 ghost use Rattle.gateway.specs.Entries.{Served};
 ghost use Rattle.gateway.specs.Serving.{BodyServed, foundIn};
 
@@ -54,6 +56,16 @@ fn find_slot(stations: &[u8; 4], station: u8) -> Found
     Found::Nowhere
 }
 
+// Check 1: whether the lent memory has its size, and the reply area room for a reply.
+fn has_room(programs: &[u8], reply: &[u8]) -> bool
+    ensures { λ r. ⌜ r ≡ hasRoom (length (now (programs .entry))) (length (now (reply .entry))) ⌝ }
+{
+    if reply.len() < 64 {
+        return false;
+    }
+    programs.len() == SIZE
+}
+
 // Writes the reply to a request that was performed: data, or the status of an SN.
 fn put_reply(reply: &mut [u8], station: u8, outcome: Outcome) -> usize
     requires { ⌜ 64 ≤ length (now reply) ⌝ }
@@ -86,6 +98,7 @@ fn serve_body(
     outputs: &mut [[u8; 32]; 4],
     memory: &mut [[u8; 16]; 4],
     on: &mut [u16; 4],
+    programs: &mut [u8],
     slot: usize,
     station: u8,
     slice: &[u8],
@@ -93,10 +106,11 @@ fn serve_body(
     reply: &mut [u8],
 ) -> Sent
     ghost { Tables }
-    requires { λ t. ⌜ tables (now timers) (now registers) (now x) (now y) (now z) (now w) (now inputs) (now outputs) (now memory) (now on) ≡ t ⌝ }
+    requires { λ t. ⌜ tables (now timers) (now registers) (now x) (now y) (now z) (now w) (now inputs) (now outputs) (now memory) (now on) (now programs) ≡ t ⌝ }
     requires { λ t. ⌜ (slot < 4) × (64 ≤ length (now reply)) ⌝ }
+    requires { λ t. ⌜ length (now programs) ≡ size ⌝ }
     requires { λ t. ⌜ (readFrame (now slice) .number ≡ 0) × (now body ≡ readFrame (now slice) .body) ⌝ }
-    ensures { λ t r. ⌜ BodyServed slot station (now (slice .entry)) t (now (reply .entry)) r (tables (now (timers .exit)) (now (registers .exit)) (now (x .exit)) (now (y .exit)) (now (z .exit)) (now (w .exit)) (now (inputs .exit)) (now (outputs .exit)) (now (memory .exit)) (now (on .exit))) (now (reply .exit)) ⌝ }
+    ensures { λ t r. ⌜ BodyServed slot station (now (slice .entry)) t (now (reply .entry)) r (tables (now (timers .exit)) (now (registers .exit)) (now (x .exit)) (now (y .exit)) (now (z .exit)) (now (w .exit)) (now (inputs .exit)) (now (outputs .exit)) (now (memory .exit)) (now (on .exit)) (now (programs .exit))) (now (reply .exit)) ⌝ }
 {
     let read = read_body(slice, body);
     let judged = read.judged;
@@ -113,6 +127,7 @@ fn serve_body(
                 outputs,
                 memory,
                 on,
+                programs,
                 slot,
                 request,
             );
@@ -147,13 +162,14 @@ pub fn serve(
     outputs: &mut [[u8; 32]; 4],
     memory: &mut [[u8; 16]; 4],
     on: &mut [u16; 4],
+    programs: &mut [u8],
     stations: &[u8; 4],
     slice: &[u8],
     reply: &mut [u8],
 ) -> Sent
-    ensures { λ r. ⌜ Served (box (now (stations .entry)) (tables (now (timers .entry)) (now (registers .entry)) (now (x .entry)) (now (y .entry)) (now (z .entry)) (now (w .entry)) (now (inputs .entry)) (now (outputs .entry)) (now (memory .entry)) (now (on .entry)))) (now (slice .entry)) (now (reply .entry)) r (tables (now (timers .exit)) (now (registers .exit)) (now (x .exit)) (now (y .exit)) (now (z .exit)) (now (w .exit)) (now (inputs .exit)) (now (outputs .exit)) (now (memory .exit)) (now (on .exit))) (now (reply .exit)) ⌝ }
+    ensures { λ r. ⌜ Served (box (now (stations .entry)) (tables (now (timers .entry)) (now (registers .entry)) (now (x .entry)) (now (y .entry)) (now (z .entry)) (now (w .entry)) (now (inputs .entry)) (now (outputs .entry)) (now (memory .entry)) (now (on .entry)) (now (programs .entry)))) (now (slice .entry)) (now (reply .entry)) r (tables (now (timers .exit)) (now (registers .exit)) (now (x .exit)) (now (y .exit)) (now (z .exit)) (now (w .exit)) (now (inputs .exit)) (now (outputs .exit)) (now (memory .exit)) (now (on .exit)) (now (programs .exit))) (now (reply .exit)) ⌝ }
 {
-    if reply.len() < 64 {
+    if !has_room(programs, reply) {
         return refusal(1, 0);
     }
     let mut number: u8 = 0;
@@ -176,6 +192,7 @@ pub fn serve(
             outputs,
             memory,
             on,
+            programs,
             slot,
             station,
             slice,

@@ -1,5 +1,7 @@
 // Input calls, exported.
 use commands::request::Port;
+ghost use Prim.Native.Nat.{ℕ};
+ghost use mathlib.Core.List.{List};
 ghost use Rattle.tables.specs.Tables.{tables};
 ghost use Rattle.model.specs.Box.{box};
 ghost use Rattle.slots.specs.Entries.{InputSet};
@@ -22,7 +24,7 @@ pub extern "C" fn llamput_input(
     port: u16,
     byte: u8,
 ) -> u8
-    ensures { λ r. ⌜ InputSet (box (now (stations .entry)) (tables (now (timers .entry)) (now (registers .entry)) (now (x .entry)) (now (y .entry)) (now (z .entry)) (now (w .entry)) (now (inputs .entry)) (now (outputs .entry)) (now (memory .entry)) (now (on .entry)))) slot port byte r (tables (now (timers .exit)) (now (registers .exit)) (now (x .exit)) (now (y .exit)) (now (z .exit)) (now (w .exit)) (now (inputs .exit)) (now (outputs .exit)) (now (memory .exit)) (now (on .exit))) ⌝ }
+    ensures { λ r. ⌜ ((m : List ℕ) → InputSet (box (now (stations .entry)) (tables (now (timers .entry)) (now (registers .entry)) (now (x .entry)) (now (y .entry)) (now (z .entry)) (now (w .entry)) (now (inputs .entry)) (now (outputs .entry)) (now (memory .entry)) (now (on .entry)) m)) slot port byte r (tables (now (timers .exit)) (now (registers .exit)) (now (x .exit)) (now (y .exit)) (now (z .exit)) (now (w .exit)) (now (inputs .exit)) (now (outputs .exit)) (now (memory .exit)) (now (on .exit)) m)) ⌝ }
 {
     slots::input::input(
         timers,

@@ -17,11 +17,12 @@ pub extern "C" fn llamput_serve(
     outputs: &mut [[u8; 32]; 4],
     memory: &mut [[u8; 16]; 4],
     on: &mut [u16; 4],
+    programs: &mut [u8],
     stations: &[u8; 4],
     slice: &[u8],
     reply: &mut [u8],
 ) -> Sent
-    ensures { λ r. ⌜ Served (box (now (stations .entry)) (tables (now (timers .entry)) (now (registers .entry)) (now (x .entry)) (now (y .entry)) (now (z .entry)) (now (w .entry)) (now (inputs .entry)) (now (outputs .entry)) (now (memory .entry)) (now (on .entry)))) (now (slice .entry)) (now (reply .entry)) r (tables (now (timers .exit)) (now (registers .exit)) (now (x .exit)) (now (y .exit)) (now (z .exit)) (now (w .exit)) (now (inputs .exit)) (now (outputs .exit)) (now (memory .exit)) (now (on .exit))) (now (reply .exit)) ⌝ }
+    ensures { λ r. ⌜ Served (box (now (stations .entry)) (tables (now (timers .entry)) (now (registers .entry)) (now (x .entry)) (now (y .entry)) (now (z .entry)) (now (w .entry)) (now (inputs .entry)) (now (outputs .entry)) (now (memory .entry)) (now (on .entry)) (now (programs .entry)))) (now (slice .entry)) (now (reply .entry)) r (tables (now (timers .exit)) (now (registers .exit)) (now (x .exit)) (now (y .exit)) (now (z .exit)) (now (w .exit)) (now (inputs .exit)) (now (outputs .exit)) (now (memory .exit)) (now (on .exit)) (now (programs .exit))) (now (reply .exit)) ⌝ }
 {
     gateway::serve::serve(
         timers,
@@ -34,6 +35,7 @@ pub extern "C" fn llamput_serve(
         outputs,
         memory,
         on,
+        programs,
         stations,
         slice,
         reply,

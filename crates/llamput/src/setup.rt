@@ -15,10 +15,11 @@ pub extern "C" fn llamput_setup(
     outputs: &mut [[u8; 32]; 4],
     memory: &mut [[u8; 16]; 4],
     on: &mut [u16; 4],
+    programs: &mut [u8],
     stations: &mut [u8; 4],
     want: &[u16; 4],
 ) -> u8
-    ensures { λ r. ⌜ SetUp (now (want .entry)) r (now (stations .exit)) (tables (now (timers .exit)) (now (registers .exit)) (now (x .exit)) (now (y .exit)) (now (z .exit)) (now (w .exit)) (now (inputs .exit)) (now (outputs .exit)) (now (memory .exit)) (now (on .exit))) ⌝ }
+    ensures { λ r. ⌜ SetUp (now (want .entry)) (now (programs .entry)) r (now (stations .exit)) (tables (now (timers .exit)) (now (registers .exit)) (now (x .exit)) (now (y .exit)) (now (z .exit)) (now (w .exit)) (now (inputs .exit)) (now (outputs .exit)) (now (memory .exit)) (now (on .exit)) (now (programs .exit))) ⌝ }
 {
     slots::setup::setup(
         timers,
@@ -31,6 +32,7 @@ pub extern "C" fn llamput_setup(
         outputs,
         memory,
         on,
+        programs,
         stations,
         *want,
     )

@@ -18,7 +18,7 @@ use Rattle.ports.proofs.Bits.{with-bit-byte}
 use Rattle.ports.proofs.On.{eight-a-port, moved-true}
 use Rattle.tables.proofs.Ranges.{store-within}
 use Rattle.model.specs.Call.{Call}
-use Rattle.model.specs.Box.{Box, setup, at, Decision, unanswered, refused, accepted, inputSet, countAsked, decide, performTables, perform, after}
+use Rattle.model.specs.Box.{Box, setup, at, Decision, unanswered, refused, accepted, inputSet, countAsked, decideOn, performTables, perform, after}
 use Rattle.model.specs.Shaped.{Shaped}
 use Rattle.model.specs.Ranges.{bringsByte}
 use Rattle.model.specs.Counts.{TrueCount}
@@ -98,19 +98,19 @@ unfolding after perform
 after-tallied b c h =
     record {
       shaped = after-shaped b c (h .shaped);
-      tally = performed-tally (b .tables) (bringsByte c) (decide (b .stations) c) (sound (b .stations) c)
-          (λ k e. concerned (b .stations) k c e .fitted .0) (h .shaped) (h .tally);
+      tally = performed-tally (b .tables) (bringsByte c) (decideOn b c) (sound (b .stations) _ c)
+          (λ k e. concerned (b .stations) k _ c e .fitted .0) (h .shaped) (h .tally);
     }
 
 setup-tally : (k : ℕ) → k < 4 → getD (replicate 4 0) k 0 ≡ signalsOn 32 (getD (replicate 4 (replicate 32 0)) k [])
 unfolding signalsOn ones
 setup-tally k l = rw (getD-replicate {A = ℕ} 4 k 0 0 l, getD-replicate {A = List ℕ} 4 k (replicate 32 0) [] l)
 
-pub setup-tallied : (want : List ℕ) → Tallied (setup want .tables)
+pub setup-tallied : (want m : List ℕ) → Tallied (setup want m .tables)
 unfolding setup zeros
-setup-tallied want =
+setup-tallied want m =
     record {
-      shaped = setup-shaped want;
+      shaped = setup-shaped want m;
       tally = record { bytes = every-equal Byte 0 4 32 0 (omega arith) (omega arith); count = setup-tally };
     }
 

@@ -3,7 +3,7 @@ use Prim.Native.Nat.{ℕ, _≤_}
 use mathlib.Core.Path.{_≡_, refl, ap}
 use mathlib.Core.Bool.{true}
 use borrow.Author.Tests.{le-leb, eq-eqb}
-use lib.ListN.{getD}
+use lib.ListN.{length, getD}
 use Rattle.text.specs.Whole.{digit}
 use Rattle.frame.specs.Frame.{frameOf}
 use Rattle.commands.specs.declared.table.Kind.the-variants as kind
@@ -16,6 +16,7 @@ use Rattle.commands.specs.declared.request.Request.the-variants as request
 use Rattle.replies.specs.Reply.{contentOf, judgeOutcome, statusText, outcomeText}
 use Rattle.harl.specs.Message.{ruleFor, writeRequest}
 use Rattle.harl.proofs.Laws.{Fitting}
+use Rattle.programs.specs.Memory.{size}
 use Rattle.model.specs.Call.{Call, serve}
 use Rattle.model.specs.Box.{Box, setup, run}
 use Rattle.model.specs.Lone.{Arm, holds, answerRequest, step}
@@ -26,7 +27,7 @@ use Rattle.numbers.proofs.Bounds.{one-in}
 use Rattle.model.proofs.Laws.{row-in, bit-in, written-frame, written-in, fitting-in, outcome-back}
 use Rattle.model.proofs.Slots.{Apart, setup-apart}
 use Rattle.model.proofs.Counts.{Tallied}
-use Rattle.model.proofs.Isolation.{after-same, run-stations, always-tallied}
+use Rattle.model.proofs.Isolation.{after-same, run-stations, run-size, always-tallied}
 use Rattle.model.proofs.Ranges.{always-in-range}
 
 -- ---- what the lone box does with a request
@@ -70,15 +71,15 @@ module _ (b : Box) (k : ℕ) (h : InRange (b .tables)) where
 
 -- on a box that has what setup and calls leave
 pub exchanged : (b : Box) (k s : ℕ) (r : Request) (area room : ℕ)
-    → getD (b .stations) k 0 ≡ s → Apart (b .stations) → Fitted k (b .stations) → Tallied (b .tables) → InRange (b .tables)
+    → getD (b .stations) k 0 ≡ s → Apart (b .stations) → Fitted k (b .stations) → length (b .tables .programs) ≡ size → Tallied (b .tables) → InRange (b .tables)
     → writeRequest area s r .number ≡ 0 → 64 ≤ room
     → Exchanged b k s r (serve (writeRequest area s r .bytes) room)
 unfolding isFor step
-exchanged b k s r area room own g f h i e l =
+exchanged b k s r area room own g f z h i e l =
     let c : Call = serve (writeRequest area s r .bytes) room in
     let w = written-frame area s r e in
     let mine : isFor k (b .stations) c ≡ true = rw (le-leb 64 room l, w .number, w .station, own) (eq-eqb s s refl) in
-    let (p, q) = rw (own, w .body, answered-as s (armOf k b) r) at (after-same b k c g f h mine) in
+    let (p, q) = rw (own, w .body, answered-as s (armOf k b) r) at (after-same b k c z g f h mine) in
     record {
       number = ap (λ x. x .number) q;
       reply = rw q (outcome-back s r (outcomeOf (armOf k b) r) (written-in area s r e) (outcome-in b k i r));
@@ -86,8 +87,8 @@ exchanged b k s r area room own g f h i e l =
     }
 
 pub end-to-end : EndToEnd
-end-to-end want cs k r area room bytes f e l =
-    let b : Box = run (setup want) cs in
-    let st : b .stations ≡ setup want .stations = run-stations cs (setup want) in
-    exchanged b k (getD (setup want .stations) k 0) r area room (rw st) (rw st (setup-apart want)) (rw st f)
-    (always-tallied want cs) (always-in-range want cs bytes) e l
+end-to-end want m cs k r area room bytes f e l =
+    let b : Box = run (setup want m) cs in
+    let st : b .stations ≡ setup want m .stations = run-stations cs (setup want m) in
+    exchanged b k (getD (setup want m .stations) k 0) r area room (rw st) (rw st (setup-apart want m)) (rw st f)
+    (run-size want m cs k f) (always-tallied want m cs) (always-in-range want m cs bytes) e l

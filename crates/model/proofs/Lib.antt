@@ -3,6 +3,7 @@ pub mod Slots
 pub mod Arms
 pub mod Shaped
 pub mod Setups
+pub mod Programs
 pub mod Ranges
 pub mod Counts
 pub mod Isolation

@@ -4,6 +4,7 @@ use mathlib.Core.Path.{_≡_, refl}
 use mathlib.Core.Bool.{Bool, true, false, cond}
 use mathlib.Core.List.{List}
 use lib.Dec.{ltb, eqb}
+use lib.ListN.{length}
 use Rattle.frame.specs.Frame.{Reading, readFrame, framePosition}
 use Rattle.bodies.specs.declared.body.Judged.{Judged}
 use Rattle.bodies.specs.declared.body.Judged.the-variants as judged
@@ -11,7 +12,7 @@ use Rattle.bodies.specs.Body.{readBody}
 use Rattle.harl.specs.Message.{RequestReading, noRequest, fromStation, readRequest}
 use Rattle.harl.specs.Place.{Told}
 use Rattle.harl.proofs.Place.{nothing-told, requests-told}
-use Rattle.model.specs.Box.{Box, Slot, nowhere, at, Decision, unanswered, countAsked, decideBody, decideSlot, isFitted, decideFitted, slotOf, decide, respond, answer}
+use Rattle.model.specs.Box.{Box, Slot, nowhere, at, Decision, unanswered, countAsked, decideBody, decideSlot, isFitted, decideFitted, slotOf, hasRoom, decide, respond, answer}
 use Rattle.model.specs.Place.{ServedTold, InputsTold, CountsTold}
 use Rattle.model.proofs.Laws.{cond-has}
 
@@ -41,8 +42,9 @@ module _ (b : Box) (slice : List ℕ) where
 pub served-told : ServedTold
 unfolding readRequest decide respond answer
 served-told b slice room =
-    cond-has (At b slice) (ltb room 64) (nothing-told slice 1 refl)
+    cond-has (At b slice) (hasRoom (length (b .tables .programs)) room)
     (frame-told b slice (eqb (readFrame slice .number) 0) (slotOf (b .stations) (readFrame slice .station)) (requests-told slice))
+    (nothing-told slice 1 refl)
 
 -- a decision with no position
 abbrev Silent : Box → Decision → Type 0

@@ -7,7 +7,7 @@ use native.Mathlib.Omega.{arith}
 use borrow.Author.Tests.{leb-true}
 use lib.Dec.{ltb, leb, eqb}
 use lib.IntN.{ℤ, pos, natAbs}
-use lib.ListN.{replicate}
+use lib.ListN.{length, replicate}
 use Rattle.frame.specs.Frame.{readFrame}
 use Rattle.names.specs.declared.command.Command.the-variants.{Snl}
 use Rattle.commands.specs.declared.table.Kind.{Kind}
@@ -28,7 +28,7 @@ use Rattle.ports.specs.Bits.{withBit}
 use Rattle.tables.specs.Tables.{Tables, StoreInRange, set2, stored, zeros}
 use Rattle.ports.proofs.Bits.{with-bit-byte}
 use Rattle.model.specs.Call.{Call, serve, input, outputsOn}
-use Rattle.model.specs.Box.{Box, setup, Slot, nowhere, at, slotOf, Decision, unanswered, refused, accepted, inputSet, countAsked, decideBody, decideSlot, isFitted, decideFitted, decide, performTables, perform, after, run}
+use Rattle.model.specs.Box.{Box, setup, Slot, nowhere, at, slotOf, Decision, unanswered, refused, accepted, inputSet, countAsked, decideBody, decideSlot, isFitted, decideFitted, hasRoom, decide, decideOn, performTables, perform, after, run}
 use Rattle.model.specs.Ranges.{InRange, bringsByte, bringBytes, AlwaysInRange}
 use Rattle.model.proofs.Laws.{cond-has, Every, every-set, every-equal, port-in, natural-in, row-out, data-in}
 
@@ -89,15 +89,15 @@ sound-slot t slice s body (at k) = go (readBody body) refl
 sound-fitted : (t : Bool) (st : List ℕ) (k : ℕ) (d : Decision) → Sound t d → Sound t (decideFitted st k d)
 sound-fitted t st k d h = cond-has (Sound t) (isFitted st k) h tt
 
-pub sound : (st : List ℕ) (c : Call) → Sound (bringsByte c) (decide st c)
+pub sound : (st : List ℕ) (lent : ℕ) (c : Call) → Sound (bringsByte c) (decide st lent c)
 unfolding decide bringsByte
-sound st (serve slice room) =
+sound st lent (serve slice room) =
     let o = readFrame slice in
-    cond-has (Sound true) (ltb room 64) tt
-    (cond-has (Sound true) (eqb (o .number) 0) (sound-slot true slice (o .station) (o .body) (slotOf st (o .station))) tt)
-sound st (input k p v) =
+    cond-has (Sound true) (hasRoom lent room)
+    (cond-has (Sound true) (eqb (o .number) 0) (sound-slot true slice (o .station) (o .body) (slotOf st (o .station))) tt) tt
+sound st lent (input k p v) =
     sound-fitted (leb v 255) st k _ (cond-has (Sound (leb v 255)) (ltb 31 p) tt (λ e. port-in v (leb-true v 255 e)))
-sound st (outputsOn k) = sound-fitted true st k (countAsked k) tt
+sound st lent (outputsOn k) = sound-fitted true st k (countAsked k) tt
 
 -- ---- calls
 
@@ -111,7 +111,7 @@ performed-in t (countAsked k) e h = h
 
 pub after-in : (b : Box) (c : Call) → bringsByte c ≡ true → InRange (b .tables) → InRange (after b c .tables)
 unfolding after perform
-after-in b c e h = performed-in (b .tables) (decide (b .stations) c) (rw e at (sound (b .stations) c)) h
+after-in b c e h = performed-in (b .tables) (decideOn b c) (rw e at (sound (b .stations) (length (b .tables .programs)) c)) h
 
 run-in : (cs : List Call) (b : Box) → bringBytes cs ≡ true → InRange (b .tables) → InRange (run b cs .tables)
 unfolding run bringBytes
@@ -124,9 +124,9 @@ zero-natural c n = every-equal (Natural c) 0 4 n 0 (zero-in c) (zero-in c)
 zero-offset : (n : ℕ) → Every Offset (pos 0) (replicate 4 (replicate n (pos 0)))
 zero-offset n = every-equal Offset (pos 0) 4 n (pos 0) (zero-in kind.Row) (zero-in kind.Row)
 
-setup-in : (want : List ℕ) → InRange (setup want .tables)
+setup-in : (want m : List ℕ) → InRange (setup want m .tables)
 unfolding setup zeros
-setup-in want = search (zero-natural, zero-offset)
+setup-in want m = search (zero-natural, zero-offset)
 
 pub always-in-range : AlwaysInRange
-always-in-range want cs e = run-in cs (setup want) e (setup-in want)
+always-in-range want m cs e = run-in cs (setup want m) e (setup-in want m)

@@ -16,8 +16,8 @@ use Rattle.bodies.specs.Body.{readShape, requestOrRefusal, readBody}
 use Rattle.bodies.specs.Position.{bodyPosition}
 use Rattle.replies.specs.Reply.{statusText, outcomeText}
 use Rattle.tables.specs.Tables.{loaded, stored, zeros}
-use Rattle.model.specs.Setup.{tooHigh, contains, repeats, setupNumber}
-use Rattle.model.specs.Box.{setup, scan, slotOf, isFitted, decide, perform, respond, after, answer}
+use Rattle.model.specs.Setup.{tooHigh, contains, repeats, setupNumber, setupRefusal}
+use Rattle.model.specs.Box.{setup, scan, slotOf, isFitted, hasRoom, decide, perform, respond, after, answer}
 use Rattle.model.specs.Runs.{replayedTurns, Runs}
 
 pub runs-hold : Runs
@@ -26,5 +26,5 @@ unfolding onesIn ones until digitsOnto readWhole digit leading shortest padded
     xorOnto lrcOf first more fields placedMore placed offending stationOf readInner readFrame framePosition opening closing frameOf
     same nameOf among commandOf inRange eachInRange allInRange judge readFields dataText readShape requestOrRefusal readBody bodyPosition statusText outcomeText
     loaded stored zeros
-    tooHigh contains repeats setupNumber setup scan slotOf isFitted decide perform respond after answer replayedTurns
+    tooHigh contains repeats setupNumber setupRefusal setup scan slotOf isFitted hasRoom decide perform respond after answer replayedTurns
 runs-hold = refl

@@ -1,6 +1,6 @@
--- Check 13 of setup: the statement of specs/Setup.antt, and what it says of the stations that setup leaves.
+-- The checks of setup: the statement of specs/Setup.antt, and what it says of the box that setup leaves.
 use Prim.Native.Nat.{ℕ, zero, suc, _≤_, _<_}
-use mathlib.Core.Path.{_≡_, refl, sym, _∙_}
+use mathlib.Core.Path.{_≡_, refl, sym, ap, _∙_}
 use mathlib.Core.Bool.{Bool, true, false, cond, not, _&&_, _||_, or-true}
 use mathlib.Core.List.{List, [], _∷_}
 use mathlib.Core.Logic.{_⊎_, inl, inr}
@@ -9,7 +9,9 @@ use borrow.Author.Tests.{ltb-true, ltb-false, eqb-true, eqb-false, not-true, lt-
 use lib.ListN.{length, getD, replicate}
 use lib.Dec.{ltb, eqb}
 use Rattle.numbers.proofs.Bounds.{and-left, and-right}
-use Rattle.model.specs.Setup.{tooHigh, contains, repeats, setupNumber, TooHigh, Twice, SetupJudged}
+use Rattle.programs.specs.Memory.{size}
+use Rattle.tables.specs.Tables.{zeros}
+use Rattle.model.specs.Setup.{tooHigh, contains, repeats, setupNumber, setupRefusal, TooHigh, Twice, SetupJudged}
 use Rattle.model.specs.Box.{setup}
 use Rattle.model.proofs.Laws.{false-true}
 
@@ -96,13 +98,31 @@ setup-judged =
 
 -- ---- what setup leaves
 
--- accepted: no station is above 99
-pub accepted-small : (want : List ℕ) (k : ℕ) → setupNumber want ≡ 0 → getD want k 0 ≤ 99
-accepted-small want k e = go (ltb 99 (getD want k 0)) refl
+-- accepted: both checks pass
+pub accepted-number : (want m : List ℕ) → setupRefusal want m ≡ 0 → setupNumber want ≡ 0
+unfolding setupRefusal
+accepted-number want m = go (eqb (length m) size)
   where
-    go : (t : Bool) → ltb 99 (getD want k 0) ≡ t → getD want k 0 ≤ 99
-    go true h = absurd (omega (arith, setup-judged .high want (record { slot = k; high = ltb-true 99 _ h })))
-    go false h = ltb-false 99 _ h
+    go : (t : Bool) → cond t (setupNumber want) 1 ≡ 0 → setupNumber want ≡ 0
+    go true e = e
+    go false e = absurd (omega arith)
+
+-- the memory has its size
+accepted-size : (want m : List ℕ) → setupRefusal want m ≡ 0 → length m ≡ size
+unfolding setupRefusal
+accepted-size want m = go (eqb (length m) size) refl
+  where
+    go : (t : Bool) → eqb (length m) size ≡ t → cond t (setupNumber want) 1 ≡ 0 → length m ≡ size
+    go true h e = eqb-true _ size h
+    go false h e = absurd (omega arith)
+
+-- no station is above 99
+pub accepted-small : (want m : List ℕ) (k : ℕ) → setupRefusal want m ≡ 0 → getD want k 0 ≤ 99
+accepted-small want m k a = let e = accepted-number want m a in go e (ltb 99 (getD want k 0)) refl
+  where
+    go : setupNumber want ≡ 0 → (t : Bool) → ltb 99 (getD want k 0) ≡ t → getD want k 0 ≤ 99
+    go e true h = absurd (omega (arith, setup-judged .high want (record { slot = k; high = ltb-true 99 _ h })))
+    go e false h = ltb-false 99 _ h
 
 -- a list of four is its four elements
 four : (st : List ℕ) → length st ≡ 4 → st ≡ getD st 0 0 ∷ getD st 1 0 ∷ getD st 2 0 ∷ getD st 3 0 ∷ []
@@ -113,12 +133,20 @@ four (a ∷ b ∷ c ∷ []) e = absurd (omega arith)
 four (a ∷ b ∷ c ∷ d ∷ []) e = refl
 four (a ∷ b ∷ c ∷ d ∷ x ∷ xs) e = absurd (omega arith)
 
--- accepted: the stations are the numbers given
-pub accepted-stations : (want : List ℕ) → length want ≡ 4 → setupNumber want ≡ 0 → getD want 0 0 ∷ getD want 1 0 ∷ getD want 2 0 ∷ getD want 3 0 ∷ [] ≡ setup want .stations
+-- accepted: the stations are the numbers given, and the memory is cleared
+pub accepted-stations : (want m : List ℕ) → length want ≡ 4 → setupRefusal want m ≡ 0 → getD want 0 0 ∷ getD want 1 0 ∷ getD want 2 0 ∷ getD want 3 0 ∷ [] ≡ setup want m .stations
 unfolding setup
-accepted-stations want l e = sym (four want l) ∙ rw e
+accepted-stations want m l e = sym (four want l) ∙ rw e
 
--- refused: no slot is fitted
-pub refused-stations : (want : List ℕ) → (setupNumber want ≡ 0 → ⊥) → replicate 4 0 ≡ setup want .stations
+pub accepted-tables : (want m p : List ℕ) → setupRefusal want m ≡ 0 → p ≡ replicate (length m) 0 → zeros p ≡ setup want m .tables
 unfolding setup
-refused-stations want e = rw (ne-eqb _ _ e)
+accepted-tables want m p e c = ap zeros (c ∙ ap (λ n. replicate n 0) (accepted-size want m e)) ∙ rw e
+
+-- refused: no slot is fitted, and the memory is as it was
+pub refused-stations : (want m : List ℕ) → (setupRefusal want m ≡ 0 → ⊥) → replicate 4 0 ≡ setup want m .stations
+unfolding setup
+refused-stations want m e = rw (ne-eqb _ _ e)
+
+pub refused-tables : (want m : List ℕ) → (setupRefusal want m ≡ 0 → ⊥) → zeros m ≡ setup want m .tables
+unfolding setup
+refused-tables want m e = rw (ne-eqb _ _ e)

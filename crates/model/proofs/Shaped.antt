@@ -9,7 +9,7 @@ use Rattle.commands.specs.declared.request.Store.the-variants as store
 use Rattle.commands.specs.declared.request.Request.the-variants as request
 use Rattle.tables.specs.Tables.{Tables, set2, stored, zeros}
 use Rattle.model.specs.Call.{Call}
-use Rattle.model.specs.Box.{Box, Decision, unanswered, refused, accepted, inputSet, countAsked, decide, performTables, perform, after, setup}
+use Rattle.model.specs.Box.{Box, Decision, unanswered, refused, accepted, inputSet, countAsked, decideOn, performTables, perform, after, setup}
 use Rattle.model.specs.Shaped.{Rows, Shaped}
 use Rattle.model.proofs.Laws.{row-other, row-same}
 
@@ -48,8 +48,8 @@ shaped-performed t (countAsked k) h = h
 
 pub after-shaped : (b : Box) (c : Call) → Shaped (b .tables) → Shaped (after b c .tables)
 unfolding after perform
-after-shaped b c h = shaped-performed (b .tables) (decide (b .stations) c) h
+after-shaped b c h = shaped-performed (b .tables) (decideOn b c) h
 
-pub setup-shaped : (want : List ℕ) → Shaped (setup want .tables)
+pub setup-shaped : (want m : List ℕ) → Shaped (setup want m .tables)
 unfolding setup zeros
-setup-shaped want = search (rows-equal, length-replicate)
+setup-shaped want m = search (rows-equal, length-replicate)

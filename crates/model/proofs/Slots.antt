@@ -15,25 +15,26 @@ use Rattle.bodies.specs.declared.body.Judged.the-variants as judged
 use Rattle.bodies.specs.Body.{readBody}
 use Rattle.numbers.proofs.Bounds.{and-left, and-right}
 use Rattle.model.specs.Call.{Call, serve, input, outputsOn}
-use Rattle.model.specs.Setup.{setupNumber}
-use Rattle.model.specs.Box.{setup, Slot, nowhere, at, scan, slotOf, Decision, unanswered, refused, accepted, inputSet, countAsked, decideBody, decideSlot, decideFrame, isFitted, decideFitted, decide}
+use Rattle.programs.specs.Memory.{size}
+use Rattle.model.specs.Setup.{setupRefusal}
+use Rattle.model.specs.Box.{setup, Slot, nowhere, at, scan, slotOf, Decision, unanswered, refused, accepted, inputSet, countAsked, decideBody, decideSlot, decideFrame, isFitted, decideFitted, hasRoom, decide}
 use Rattle.model.specs.Addressed.{Fitted, isFor}
 use Rattle.model.proofs.Laws.{false-true}
-use Rattle.model.proofs.Setups.{setup-judged}
+use Rattle.model.proofs.Setups.{setup-judged, accepted-number}
 
 -- ---- no nonzero station stands twice
 
 abbrev pub Apart : List ℕ → Type 0
 Apart st = (a b : ℕ) → a < b → b < 4 → getD st a 0 ≡ getD st b 0 → (getD st a 0 ≡ 0 → ⊥) → ⊥
 
-pub setup-apart : (want : List ℕ) → Apart (setup want .stations)
+pub setup-apart : (want m : List ℕ) → Apart (setup want m .stations)
 unfolding setup
-setup-apart want = go (eqb (setupNumber want) 0) refl
+setup-apart want m = go (eqb (setupRefusal want m) 0) refl
   where
-    go : (t : Bool) → eqb (setupNumber want) 0 ≡ t → Apart (cond t want (replicate 4 0))
+    go : (t : Bool) → eqb (setupRefusal want m) 0 ≡ t → Apart (cond t want (replicate 4 0))
     go true e a b l h q f =
         let n = setup-judged .twice want (record { slot = a; later = b; order = l; nonzero = f; equal = sym q }) in
-        omega (arith, eqb-true (setupNumber want) 0 e)
+        omega (arith, accepted-number want m (eqb-true (setupRefusal want m) 0 e))
     go false e a b l h q f = f (getD-replicate 4 a 0 0 (omega arith))
 
 -- ---- the slot of a station
@@ -104,6 +105,19 @@ fitted-is st k e = go (ltb 3 k) refl e
     go true et h = false-true h
     go false et h = let l = ltb-false 3 k et in (omega arith, eqb-false _ 0 (not-true (eqb (getD st k 0) 0) h))
 
+-- check 1, both ways
+pub room-is : (lent room : ℕ) → hasRoom lent room ≡ true → (64 ≤ room) × (lent ≡ size)
+unfolding hasRoom
+room-is lent room e = go (ltb room 64) refl e
+  where
+    go : (t : Bool) → ltb room 64 ≡ t → cond t false (eqb lent size) ≡ true → (64 ≤ room) × (lent ≡ size)
+    go true et h = false-true h
+    go false et h = (ltb-false room 64 et, eqb-true lent size h)
+
+pub is-room : (lent room : ℕ) → 64 ≤ room → lent ≡ size → hasRoom lent room ≡ true
+unfolding hasRoom
+is-room lent room h e = rw (le-ltb room 64 h) (eq-eqb lent size e)
+
 module _ (st : List ℕ) (k : ℕ) where
   frame-for : (slice : List ℕ) (o : Reading) → concerns (decideFrame slice st o) ≡ at k → For k st (eqb (o .number) 0 && eqb (o .station) (getD st k 0))
   frame-for slice o e = go (eqb (o .number) 0) (slotOf st (o .station)) _ _ refl e
@@ -132,21 +146,21 @@ module _ (st : List ℕ) (k : ℕ) where
       let f = fitted-is st j h in
       record { fitted = rw (← q) f; addressed = rw (le-leb j 3 (omega (arith, f .0)), ne-eqb _ 0 (f .1), e) }
 
-  pub concerned : (c : Call) → concerns (decide st c) ≡ at k → For k st (isFor k st c)
+  pub concerned : (lent : ℕ) (c : Call) → concerns (decide st lent c) ≡ at k → For k st (isFor k st c)
   unfolding decide isFor
-  concerned (serve slice room) e = go (ltb room 64) refl e
+  concerned lent (serve slice room) e = go (hasRoom lent room) refl e
     where
-      go : (t : Bool) → ltb room 64 ≡ t → concerns (cond t (unanswered 1 0) (decideFrame slice st (readFrame slice))) ≡ at k
+      go : (t : Bool) → hasRoom lent room ≡ t → concerns (cond t (decideFrame slice st (readFrame slice)) (unanswered 1 0)) ≡ at k
           → For k st (leb 64 room && (eqb (readFrame slice .number) 0 && eqb (readFrame slice .station) (getD st k 0)))
-      go true et e′ = nowhere-at e′
-      go false et e′ = rw (le-leb 64 room (ltb-false room 64 et)) (frame-for slice (readFrame slice) e′)
-  concerned (input j p v) e = let (h, q) = fitted-concerns j _ e in go h (ltb 31 p) refl q
+      go true et e′ = rw (le-leb 64 room (room-is lent room et .0)) (frame-for slice (readFrame slice) e′)
+      go false et e′ = nowhere-at e′
+  concerned lent (input j p v) e = let (h, q) = fitted-concerns j _ e in go h (ltb 31 p) refl q
     where
       go : isFitted st j ≡ true → (t : Bool) → ltb 31 p ≡ t → concerns (cond t (unanswered 14 0) (inputSet j p v)) ≡ at k
           → For k st (leb j 3 && (not (eqb (getD st j 0) 0) && (leb p 31 && eqb j k)))
       go h true et q = nowhere-at q
       go h false et q = let w : j ≡ k = cc in slot-for j _ h w (rw (le-leb p 31 (ltb-false 31 p et)) (eq-eqb j k w))
-  concerned (outputsOn j) e = let (h, q) = fitted-concerns j _ e in let w : j ≡ k = cc in slot-for j _ h w (eq-eqb j k w)
+  concerned lent (outputsOn j) e = let (h, q) = fitted-concerns j _ e in let w : j ≡ k = cc in slot-for j _ h w (eq-eqb j k w)
 
 -- ---- what is decided of a call that is addressed to slot k's arm
 
@@ -163,20 +177,20 @@ fitted-decided st j x d e =
     let t = and-right (leb j 3) _ e in
     (rw (le-ltb 3 j (leb-true j 3 (and-left (leb j 3) _ e)), not-true (eqb (getD st j 0) 0) (and-left n x t)), and-right n x t)
 
-pub decided : (st : List ℕ) (k : ℕ) (c : Call) → Apart st → Fitted k st → isFor k st c ≡ true → decide st c ≡ heard k st c
+pub decided : (st : List ℕ) (lent k : ℕ) (c : Call) → lent ≡ size → Apart st → Fitted k st → isFor k st c ≡ true → decide st lent c ≡ heard k st c
 unfolding decide isFor
-decided st k (serve slice room) g f e =
+decided st lent k (serve slice room) z g f e =
     let o = readFrame slice in
     let t = and-right (leb 64 room) _ e in
     rw (
-      le-ltb room 64 (leb-true 64 room (and-left (leb 64 room) _ e)),
+      is-room lent room (leb-true 64 room (and-left (leb 64 room) _ e)) z,
       and-left (eqb (o .number) 0) _ t,
       eqb-true (o .station) (getD st k 0) (and-right (eqb (o .number) 0) _ t),
       slot-own st k g f,
     )
-decided st k (input j p v) g f e =
+decided st lent k (input j p v) z g f e =
     let (w, u) = fitted-decided st j (leb p 31 && eqb j k) (cond (ltb 31 p) (unanswered 14 0) (inputSet j p v)) e in
     w ∙ rw (le-ltb 31 p (leb-true p 31 (and-left (leb p 31) _ u)), eqb-true j k (and-right (leb p 31) _ u))
-decided st k (outputsOn j) g f e =
+decided st lent k (outputsOn j) z g f e =
     let (w, u) = fitted-decided st j (eqb j k) (countAsked j) e in
     w ∙ rw (eqb-true j k u)

@@ -38,8 +38,9 @@ use Rattle.data.proofs.Bounds.{passed, judged}
 use Rattle.harl.proofs.Accepted.{accepted-in-range}
 use Rattle.harl.proofs.Requests.{requests-read-back, asked-ok}
 use Rattle.model.specs.Call.{serve, input}
-use Rattle.model.specs.Setup.{setupNumber}
-use Rattle.model.specs.Box.{Box, setup, at, decide, after, run}
+use Rattle.programs.specs.Memory.{size}
+use Rattle.model.specs.Setup.{setupRefusal}
+use Rattle.model.specs.Box.{Box, setup, at, decideOn, after, run}
 use Rattle.model.specs.Lone.{Arm, holds, replaced, step}
 use Rattle.model.specs.Addressed.{Fitted, isFor, armOf}
 use Rattle.model.specs.Ranges.{InRange, bringsByte}
@@ -48,8 +49,9 @@ use Rattle.model.proofs.Laws.{framed}
 use Rattle.model.proofs.Slots.{Apart, setup-apart, concerns, body-concerns, heard, decided}
 use Rattle.model.proofs.Arms.{other}
 use Rattle.model.proofs.Setups.{accepted-small}
+use Rattle.model.proofs.Programs.{after-length}
 use Rattle.model.proofs.Counts.{Tallied, after-tallied}
-use Rattle.model.proofs.Isolation.{after-stations, after-same, run-stations, always-tallied}
+use Rattle.model.proofs.Isolation.{after-stations, after-same, run-stations, run-size, always-tallied}
 use Rattle.model.proofs.Ranges.{after-in, always-in-range}
 use Rattle.model.proofs.EndToEnd.{exchanged}
 
@@ -469,6 +471,7 @@ shown a (load.MemoryPort p) i = tt
 record Ready (b : Box) : Type 0 where
   apart : Apart (b .stations)
   small : (k : ℕ) → Fitted k (b .stations) → stationAt b k ≤ 99
+  lent : (k : ℕ) → Fitted k (b .stations) → length (b .tables .programs) ≡ size
   tallied : Tallied (b .tables)
   range : InRange (b .tables)
 
@@ -503,7 +506,7 @@ module _ (b : Box) (r : Ready b) (k : ℕ) (f : Fitted k (b .stations)) where
   -- the answer to an LN that can be written is what the arm holds
   told-asked : (l : Load) → judgeAsked (stationAt b k) (request.Load l) ≡ 0 → told b k l ≡ replies (holds (armOf k b) l)
   unfolding told writeRequest
-  told-asked l e = exchanged b k (stationAt b k) (request.Load l) 64 64 refl (r .apart) f (r .tallied) (r .range) e (omega arith) .reply
+  told-asked l e = exchanged b k (stationAt b k) (request.Load l) 64 64 refl (r .apart) f (r .lent k f) (r .tallied) (r .range) e (omega arith) .reply
 
   told-held : (l : Load) → LoadInRange l → told b k l ≡ replies (holds (armOf k b) l)
   told-held l e = told-asked l (writable (request.Load l) e)
@@ -525,8 +528,8 @@ module _ (b : Box) (r : Ready b) (k : ℕ) (f : Fitted k (b .stations)) where
   unfolding step readRequest
   arm-own (sn slice room q) h =
       let o = framed slice (readFrame slice) (stationAt b k) (request.Store q) (h .1) in
-      rw (o .body) at (after-same b k (serve slice room) (r .apart) f (r .tallied) (addressed (sn slice room q) h) .0)
-  arm-own (wired p v) h = after-same b k (input k p v) (r .apart) f (r .tallied) (addressed (wired p v) h) .0
+      rw (o .body) at (after-same b k (serve slice room) (r .lent k f) (r .apart) f (r .tallied) (addressed (sn slice room q) h) .0)
+  arm-own (wired p v) h = after-same b k (input k p v) (r .lent k f) (r .apart) f (r .tallied) (addressed (wired p v) h) .0
 
   -- and no other
   concerns-own : (w : Write) → concerns (heard k (b .stations) (callTo k w)) ≡ at k
@@ -536,8 +539,8 @@ module _ (b : Box) (r : Ready b) (k : ℕ) (f : Fitted k (b .stations)) where
   arm-other : (w : Write) → Accepts (stationAt b k) w → (j : ℕ) → (j ≡ k → ⊥) → armOf j (after b (callTo k w)) ≡ armOf j b
   unfolding after
   arm-other w h j ne =
-      let d = decided (b .stations) k (callTo k w) (r .apart) f (addressed w h) in
-      other b j (decide (b .stations) (callTo k w)) (λ e. let z : j ≡ k = cc (concerns-own w) in ne z)
+      let d = decided (b .stations) _ k (callTo k w) (r .lent k f) (r .apart) f (addressed w h) in
+      other b j (decideOn b (callTo k w)) (λ e. let z : j ≡ k = cc (concerns-own w) in ne z)
 
   ranged : (w : Write) → Accepts (stationAt b k) w → Ranged w
   unfolding readRequest
@@ -557,6 +560,7 @@ module _ (b : Box) (r : Ready b) (k : ℕ) (f : Fitted k (b .stations)) where
       record {
         apart = rw e (r .apart);
         small = rw e (r .small);
+        lent = λ j g. after-length b (callTo k w) ∙ r .lent j (rw e at g);
         tallied = after-tallied b (callTo k w) (r .tallied);
         range = after-in b (callTo k w) (brings w h) (r .range);
       }
@@ -617,24 +621,25 @@ module _ (b : Box) (r : Ready b) (k : ℕ) (f : Fitted k (b .stations)) where
 
 -- ---- from setup
 
-small-station : (want : List ℕ) (k : ℕ) → Fitted k (setup want .stations) → getD (setup want .stations) k 0 ≤ 99
+small-station : (want m : List ℕ) (k : ℕ) → Fitted k (setup want m .stations) → getD (setup want m .stations) k 0 ≤ 99
 unfolding setup
-small-station want k f = go (eqb (setupNumber want) 0) refl
+small-station want m k f = go (eqb (setupRefusal want m) 0) refl
   where
-    go : (t : Bool) → eqb (setupNumber want) 0 ≡ t → getD (cond t want (replicate 4 0)) k 0 ≤ 99
-    go true z = accepted-small want k (eqb-true _ 0 z)
+    go : (t : Bool) → eqb (setupRefusal want m) 0 ≡ t → getD (cond t want (replicate 4 0)) k 0 ≤ 99
+    go true z = accepted-small want m k (eqb-true _ 0 z)
     go false z = omega (arith, getD-replicate {A = ℕ} 4 k 0 0 (f .0))
 
 pub store-load : StoreLoad
-store-load want cs k bytes f =
-    let b : Box = run (setup want) cs in
-    let st : b .stations ≡ setup want .stations = run-stations cs (setup want) in
+store-load want m cs k bytes f =
+    let b : Box = run (setup want m) cs in
+    let st : b .stations ≡ setup want m .stations = run-stations cs (setup want m) in
     let r : Ready b =
     record {
-      apart = rw st (setup-apart want);
-      small = rw st (small-station want);
-      tallied = always-tallied want cs;
-      range = always-in-range want cs bytes;
+      apart = rw st (setup-apart want m);
+      small = rw st (small-station want m);
+      lent = λ j g. run-size want m cs j (rw st at g);
+      tallied = always-tallied want m cs;
+      range = always-in-range want m cs bytes;
     } in
     let g : Fitted k (b .stations) = rw st f in
     record { writable = written-accepted b r k g; reads-back = stored-told b r k g; others = others-told b r k g; bits = signals-told b r k g }

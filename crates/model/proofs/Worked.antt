@@ -15,8 +15,8 @@ use Rattle.bodies.specs.Body.{readShape, requestOrRefusal, readBody, bodyText}
 use Rattle.replies.specs.Reply.{dataFit, judgeOutcome, statusText, outcomeText}
 use Rattle.harl.specs.Message.{judgeAsked, writeRequest, judgeReply, writeReply}
 use Rattle.tables.specs.Tables.{loaded, stored, zeros}
-use Rattle.model.specs.Setup.{tooHigh, contains, repeats, setupNumber}
-use Rattle.model.specs.Box.{setup, scan, slotOf, decide, respond, answer}
+use Rattle.model.specs.Setup.{tooHigh, contains, repeats, setupNumber, setupRefusal}
+use Rattle.model.specs.Box.{setup, scan, slotOf, hasRoom, decide, respond, answer}
 use Rattle.model.specs.Worked.{resultOf, worked, Worked}
 
 pub worked-out : Worked
@@ -24,5 +24,5 @@ unfolding resultOf worked until readWhole digitsOnto digit leading shortest padd
     readHundredths magnitudeText hundredthsText xorOnto lrcOf opening closing frameOf first more fields same
     nameOf among commandOf inRange eachInRange allInRange judge readFields dataText readShape requestOrRefusal readBody bodyText dataFit judgeOutcome statusText
     outcomeText judgeAsked writeRequest judgeReply writeReply stationOf readInner readFrame loaded stored zeros
-    tooHigh contains repeats setupNumber setup scan slotOf decide respond answer
+    tooHigh contains repeats setupNumber setupRefusal setup scan slotOf hasRoom decide respond answer
 worked-out = refl

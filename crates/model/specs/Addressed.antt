@@ -6,6 +6,7 @@ use mathlib.Core.List.{List, [], _∷_}
 use lib.ListN.{getD}
 use lib.Dec.{leb, eqb}
 use Rattle.frame.specs.Frame.{readFrame}
+use Rattle.programs.specs.Memory.{program}
 use Rattle.tables.specs.Tables.{eachField}
 use Rattle.model.specs.Call.{Call, serve, input, outputsOn, Answer}
 use Rattle.model.specs.Box.{Box, after, answer}
@@ -16,7 +17,8 @@ abbrev pub Fitted : ℕ → List ℕ → Type 0
 Fitted k st = (k < 4) × (getD st k 0 ≡ 0 → ⊥)
 
 -- a serving call: checks 1 to 7 pass and the station is the arm's, so that 8 passes too; an input call, and one that asks
--- for the outputs that are on: it is not refused and its slot is the arm's
+-- for the outputs that are on: it is not refused and its slot is the arm's. Check 1 asks for the size of the lent memory too,
+-- which it has wherever an arm is fitted
 unfoldable pub isFor : ℕ → List ℕ → Call → Bool
 isFor k st (serve slice room) =
     leb 64 room && (eqb (readFrame slice .number) 0 && eqb (readFrame slice .station) (getD st k 0))
@@ -40,7 +42,7 @@ answersTo k b [] = []
 answersTo k b (c ∷ cs) =
     cond (isFor k (b .stations) c) (answer b c ∷ answersTo k (after b c) cs) (answersTo k (after b c) cs)
 
--- the tables of slot k's arm, without the number that is kept of it
+-- the tables of slot k's arm and its steps, without the number that is kept of it
 abbrev pub armOf : ℕ → Box → Arm
 armOf k b =
     record {
@@ -51,4 +53,5 @@ armOf k b =
       outputs = getD (b .tables .outputs) k [];
       memory = getD (b .tables .memory) k [];
       on = tt;
+      programs = program k (b .tables .programs);
     }

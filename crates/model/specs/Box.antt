@@ -1,10 +1,10 @@
 -- The box (document 01's term for the gateway with its tables): four slots, their stations and tables, and
--- what a call does. `decide` makes every test, from the call and the stations alone; `perform` and `respond`
--- go by its cases and make none.
+-- what a call does. `decide` makes every test, from the call, the stations and the length of the memory that is
+-- lent for the START programs alone; `perform` and `respond` go by its cases and make none.
 use Prim.Native.Nat.{ℕ, zero, suc}
 use mathlib.Core.Bool.{Bool, false, cond, not}
 use mathlib.Core.List.{List, [], _∷_}
-use lib.ListN.{getD, replicate}
+use lib.ListN.{length, getD, replicate}
 use lib.Dec.{ltb, eqb}
 use Rattle.frame.specs.Frame.{Reading, readFrame, framePosition, frameOf}
 use Rattle.commands.specs.declared.request.Request.{Request}
@@ -15,7 +15,8 @@ use Rattle.bodies.specs.Position.{bodyPosition}
 use Rattle.replies.specs.Reply.{performedText, refusalText}
 use Rattle.tables.specs.Tables.{Tables, withInputs, set2, performed, outcomeAt, zeros}
 use Rattle.model.specs.Call.{Call, serve, input, outputsOn, Answer, noReply, theCount}
-use Rattle.model.specs.Setup.{setupNumber}
+use Rattle.programs.specs.Memory.{size}
+use Rattle.model.specs.Setup.{setupRefusal}
 
 -- a station of 0 leaves its slot unfitted
 pub record Box : Type 0 where
@@ -27,9 +28,12 @@ box st t = record { stations = st; tables = t }
 
 -- ---- setup
 
--- the box that setup yields, with every table zero; refused, with no arm fitted
-unfoldable pub setup : List ℕ → Box
-setup want = record { stations = cond (eqb (setupNumber want) 0) want (replicate 4 0); tables = zeros }
+-- the box that setup yields of the station numbers and the memory as it is lent: every table zero, and the memory cleared;
+-- refused, with no arm fitted, and the memory as it was
+unfoldable pub setup : List ℕ → List ℕ → Box
+setup want m =
+    let ok = eqb (setupRefusal want m) 0 in
+    record { stations = cond ok want (replicate 4 0); tables = zeros (cond ok (replicate size 0) m) }
 
 -- ---- what is decided of a call
 
@@ -79,11 +83,19 @@ isFitted st k = cond (ltb 3 k) false (not (eqb (getD st k 0) 0))
 abbrev pub decideFitted : List ℕ → ℕ → Decision → Decision
 decideFitted st k d = cond (isFitted st k) d (unanswered 14 0)
 
--- 1 ROOM, then those; 14 INPUT
-unfoldable pub decide : List ℕ → Call → Decision
-decide st (serve slice room) = cond (ltb room 64) (unanswered 1 0) (decideFrame slice st (readFrame slice))
-decide st (input k port byte) = decideFitted st k (cond (ltb 31 port) (unanswered 14 0) (inputSet k port byte))
-decide st (outputsOn k) = decideFitted st k (countAsked k)
+-- the lent memory has its size, and the reply area room for a reply
+unfoldable pub hasRoom : ℕ → ℕ → Bool
+hasRoom lent room = cond (ltb room 64) false (eqb lent size)
+
+-- 1 ROOM, then those; 14 INPUT. The stations, the length of the lent memory, and the call
+unfoldable pub decide : List ℕ → ℕ → Call → Decision
+decide st lent (serve slice room) = cond (hasRoom lent room) (decideFrame slice st (readFrame slice)) (unanswered 1 0)
+decide st lent (input k port byte) = decideFitted st k (cond (ltb 31 port) (unanswered 14 0) (inputSet k port byte))
+decide st lent (outputsOn k) = decideFitted st k (countAsked k)
+
+-- of a call on a box
+abbrev pub decideOn : Box → Call → Decision
+decideOn b c = decide (b .stations) (length (b .tables .programs)) c
 
 -- ---- what is done and answered
 
@@ -106,10 +118,10 @@ respond b (countAsked k) = theCount (getD (b .tables .on) k 0)
 
 -- the box that a call leaves, and its answer
 unfoldable pub after : Box → Call → Box
-after b c = perform b (decide (b .stations) c)
+after b c = perform b (decideOn b c)
 
 unfoldable pub answer : Box → Call → Answer
-answer b c = respond b (decide (b .stations) c)
+answer b c = respond b (decideOn b c)
 
 -- a list of calls, each given the box as the last one left it
 unfoldable pub run : Box → List Call → Box

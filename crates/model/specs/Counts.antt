@@ -17,4 +17,4 @@ pub record TrueCount (t : Tables) (k : ℕ) : Type 0 where
 
 -- after any setup and any list of calls, for each slot (proved in proofs/Isolation.antt)
 abbrev pub AlwaysCounted : Type 0
-AlwaysCounted = (want : List ℕ) (cs : List Call) (k : ℕ) → k < 4 → TrueCount (run (setup want) cs .tables) k
+AlwaysCounted = (want m : List ℕ) (cs : List Call) (k : ℕ) → k < 4 → TrueCount (run (setup want m) cs .tables) k

@@ -38,10 +38,10 @@ pub record Exchanged (b : Box) (k s : ℕ) (r : Request) (c : Call) : Type 0 whe
 -- to its station; area and room are the lengths of the areas for the request and the reply (proved in proofs/EndToEnd.antt)
 abbrev pub EndToEnd : Type 0
 EndToEnd =
-    (want : List ℕ) (cs : List Call) (k : ℕ) (r : Request) (area room : ℕ)
+    (want m : List ℕ) (cs : List Call) (k : ℕ) (r : Request) (area room : ℕ)
     → bringBytes cs ≡ true
-    → Fitted k (setup want .stations)
-    → writeRequest area (getD (setup want .stations) k 0) r .number ≡ 0
+    → Fitted k (setup want m .stations)
+    → writeRequest area (getD (setup want m .stations) k 0) r .number ≡ 0
     → 64 ≤ room
-    → Exchanged (run (setup want) cs) k (getD (setup want .stations) k 0) r
-    (serve (writeRequest area (getD (setup want .stations) k 0) r .bytes) room)
+    → Exchanged (run (setup want m) cs) k (getD (setup want m .stations) k 0) r
+    (serve (writeRequest area (getD (setup want m .stations) k 0) r .bytes) room)

@@ -25,16 +25,17 @@ use Rattle.ports.specs.On.{signalsOn}
 use Rattle.tables.specs.Tables.{PerKind, eachField, eachWith, asRow, tables, withTimers, withRegisters, withRows, withInputs, withOutputs, withMemory}
 use Rattle.model.specs.Call.{Answer, noReply, theCount}
 
--- 16 timers, 64 registers, 100 rows, 32 input, 32 output and 16 memory ports; it keeps no number of outputs that are on
+-- 16 timers, 64 registers, 100 rows, 32 input, 32 output and 16 memory ports; it keeps no number of outputs that are on; and 256
+-- steps, each the texts of its command and its data as characters, nothing for one never written
 abbrev pub Arm : Type 0
-Arm = PerKind (List ℕ) (List ℤ) Unit
+Arm = PerKind (List ℕ) (List ℤ) Unit (List (List (List ℕ)))
 
--- all zero at first
+-- all zero at first, and no step written
 unfoldable pub zeroArm : Arm
 zeroArm =
     tables (replicate 16 0) (replicate 64 0)
     (replicate 100 (pos 0)) (replicate 100 (pos 0)) (replicate 100 (pos 0)) (replicate 100 (pos 0))
-    (replicate 32 0) (replicate 32 0) (replicate 16 0) tt
+    (replicate 32 0) (replicate 32 0) (replicate 16 0) tt (replicate 256 [])
 
 -- a serving call's slice; an input call's port and byte; the question how many outputs are on
 pub data Event : Type 0 where

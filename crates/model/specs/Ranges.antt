@@ -33,4 +33,4 @@ bringBytes (c ∷ cs) = bringsByte c && bringBytes cs
 
 -- after any setup and any list of calls that bring bytes every table is in range (proved in proofs/Ranges.antt)
 abbrev pub AlwaysInRange : Type 0
-AlwaysInRange = (want : List ℕ) (cs : List Call) → bringBytes cs ≡ true → InRange (run (setup want) cs .tables)
+AlwaysInRange = (want m : List ℕ) (cs : List Call) → bringBytes cs ≡ true → InRange (run (setup want m) cs .tables)

@@ -2,9 +2,11 @@
 use Prim.Native.Nat.{ℕ}
 use mathlib.Core.Path.{_≡_}
 use mathlib.Core.List.{List, [], _∷_, _++_, map}
+use lib.ListN.{replicate}
 use Rattle.frame.specs.Frame.{frameOf}
+use Rattle.programs.specs.Memory.{size}
 use Rattle.model.specs.Call.{Call, serve, input, outputsOn, Answer, noReply, theCount}
-use Rattle.model.specs.Setup.{setupNumber}
+use Rattle.model.specs.Setup.{setupRefusal}
 use Rattle.model.specs.Box.{Box, setup, after, answer}
 
 -- a call and its answer
@@ -12,9 +14,10 @@ pub record Turn : Type 0 where
   pub call : Call
   pub answer : Answer
 
--- the numbers given to setup, the number that it gives, and the calls after it
+-- the numbers given to setup, how many bytes it is lent for the START programs, the number that it gives, and the calls after it
 pub record Run : Type 0 where
   pub want : List ℕ
+  pub lent : ℕ
   pub number : ℕ
   pub turns : List Turn
 
@@ -23,9 +26,11 @@ unfoldable pub replayedTurns : Box → List Turn → List Turn
 replayedTurns b [] = []
 replayedTurns b (t ∷ ts) = record { call = t .call; answer = answer b (t .call) } ∷ replayedTurns (after b (t .call)) ts
 
--- the same run, as the box goes through it
+-- the same run, as the box goes through it; whatever the lent bytes are, here 255
 abbrev pub replayed : Run → Run
-replayed r = record { want = r .want; number = setupNumber (r .want); turns = replayedTurns (setup (r .want)) (r .turns) }
+replayed r =
+    let m : List ℕ = replicate (r .lent) 255 in
+    record { want = r .want; lent = r .lent; number = setupRefusal (r .want) m; turns = replayedTurns (setup (r .want) m) (r .turns) }
 
 -- a request to a station, the number and the position given, and the body of the reply
 abbrev pub asks : ℕ → List ℕ → ℕ → ℕ → List ℕ → Turn
@@ -208,18 +213,21 @@ emptyTurns = asks 99 [] 9 4 (69 ∷ 48 ∷ 57 ∷ []) ∷ []
 abbrev pub runs : List Run
 runs =
     -- four arms
-    record { want = 1 ∷ 2 ∷ 3 ∷ 4 ∷ []; number = 0; turns = registerTurns ++ (rowTurns ++ (portTurns ++ (countTurns ++ (pointedTurns ++ unansweredTurns)))) } ∷
+    record { want = 1 ∷ 2 ∷ 3 ∷ 4 ∷ []; lent = size; number = 0; turns = registerTurns ++ (rowTurns ++ (portTurns ++ (countTurns ++ (pointedTurns ++ unansweredTurns)))) } ∷
     -- the highest station and the lowest, in the first slot and the last
-    record { want = 99 ∷ 0 ∷ 0 ∷ 1 ∷ []; number = 0; turns = inputTurns ++ emptyTurns } ∷
+    record { want = 99 ∷ 0 ∷ 0 ∷ 1 ∷ []; lent = size; number = 0; turns = inputTurns ++ emptyTurns } ∷
     -- one arm, in slot 1
-    record { want = 0 ∷ 7 ∷ 0 ∷ 0 ∷ []; number = 0; turns = gives (input 0 0 1) 14 ∷ gives (input 1 0 1) 0 ∷ [] } ∷
+    record { want = 0 ∷ 7 ∷ 0 ∷ 0 ∷ []; lent = size; number = 0; turns = gives (input 0 0 1) 14 ∷ gives (input 1 0 1) 0 ∷ [] } ∷
     -- station 1 twice, so that no arm is fitted
-    record { want = 1 ∷ 2 ∷ 1 ∷ 0 ∷ []; number = 13; turns = gives (serve (frameOf 1 lnd) 64) 8 ∷ gives (input 0 0 1) 14 ∷ gives (outputsOn 0) 14 ∷ [] } ∷
+    record { want = 1 ∷ 2 ∷ 1 ∷ 0 ∷ []; lent = size; number = 13; turns = gives (serve (frameOf 1 lnd) 64) 8 ∷ gives (input 0 0 1) 14 ∷ gives (outputsOn 0) 14 ∷ [] } ∷
     -- station 7 in the first slot and the last
-    record { want = 7 ∷ 0 ∷ 1 ∷ 7 ∷ []; number = 13; turns = [] } ∷
+    record { want = 7 ∷ 0 ∷ 1 ∷ 7 ∷ []; lent = size; number = 13; turns = [] } ∷
     -- a station above 99, in the first slot and behind another
-    record { want = 100 ∷ 0 ∷ 0 ∷ 0 ∷ []; number = 13; turns = [] } ∷
-    record { want = 1 ∷ 100 ∷ 0 ∷ 0 ∷ []; number = 13; turns = gives (serve (frameOf 1 lnd) 64) 8 ∷ [] } ∷
+    record { want = 100 ∷ 0 ∷ 0 ∷ 0 ∷ []; lent = size; number = 13; turns = [] } ∷
+    record { want = 1 ∷ 100 ∷ 0 ∷ 0 ∷ []; lent = size; number = 13; turns = gives (serve (frameOf 1 lnd) 64) 8 ∷ [] } ∷
+    -- a byte too few and one too many: ROOM, before 13 too, and to every slice, even one that is no frame; no arm is fitted
+    record { want = 1 ∷ 2 ∷ 3 ∷ 4 ∷ []; lent = 40959; number = 1; turns = gives (serve (frameOf 1 lnd) 64) 1 ∷ gives (serve [] 64) 1 ∷ gives (input 0 0 1) 14 ∷ gives (outputsOn 0) 14 ∷ [] } ∷
+    record { want = 1 ∷ 1 ∷ 0 ∷ 0 ∷ []; lent = 40961; number = 1; turns = gives (serve (frameOf 1 lnd) 64) 1 ∷ [] } ∷
     []
 
 -- the box goes through every run as it stands here (proved in proofs/Runs.antt)

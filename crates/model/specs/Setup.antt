@@ -1,12 +1,14 @@
--- Check 13 of setup (document 01, "Refusal numbers"): the station numbers given for the slots, and the number that
--- setup gives. `setupNumber` computes it; `SetupJudged` says in both directions when it is 13.
+-- The checks of setup: 1 of the memory that is lent for the START programs (document 02, E3), then 13 of the station numbers
+-- given for the slots (document 01, "Refusal numbers"). `setupNumber` computes check 13; `SetupJudged` says in both directions
+-- when it refuses.
 use Prim.Native.Nat.{ℕ, _<_}
 use mathlib.Core.Path.{_≡_}
 use mathlib.Core.Bool.{Bool, false, cond, not, _&&_, _||_}
 use mathlib.Core.List.{List, [], _∷_}
 use mathlib.Core.Logic.{_⊎_}
-use lib.ListN.{getD}
+use lib.ListN.{length, getD}
 use lib.Dec.{ltb, eqb}
+use Rattle.programs.specs.Memory.{size}
 
 -- some station is above 99
 unfoldable pub tooHigh : List ℕ → Bool
@@ -26,6 +28,10 @@ repeats (s ∷ rest) = (not (eqb s 0) && contains s rest) || repeats rest
 -- 13 SETUP: a station above 99, or one nonzero station twice
 unfoldable pub setupNumber : List ℕ → ℕ
 setupNumber want = cond (tooHigh want || repeats want) 13 0
+
+-- the number that setup gives, of the station numbers and the lent memory: 1 ROOM where it has another size, then 13
+unfoldable pub setupRefusal : List ℕ → List ℕ → ℕ
+setupRefusal want m = cond (eqb (length m) size) (setupNumber want) 1
 
 -- ---- the same of slots
 

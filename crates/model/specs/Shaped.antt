@@ -23,4 +23,4 @@ pub record Shaped (t : Tables) : Type 0 where
 
 -- after any setup and any list of calls the tables have that shape (proved in proofs/Isolation.antt)
 abbrev pub AlwaysShaped : Type 0
-AlwaysShaped = (want : List ℕ) (cs : List Call) → Shaped (run (setup want) cs .tables)
+AlwaysShaped = (want m : List ℕ) (cs : List Call) → Shaped (run (setup want m) cs .tables)

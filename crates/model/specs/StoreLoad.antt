@@ -133,7 +133,7 @@ pub record Kept (b : Box) (k : ℕ) : Type 0 where
 -- after any setup and any list of calls that bring bytes, for every fitted slot (proved in proofs/StoreLoad.antt)
 abbrev pub StoreLoad : Type 0
 StoreLoad =
-    (want : List ℕ) (cs : List Call) (k : ℕ)
+    (want m : List ℕ) (cs : List Call) (k : ℕ)
     → bringBytes cs ≡ true
-    → Fitted k (setup want .stations)
-    → Kept (run (setup want) cs) k
+    → Fitted k (setup want m .stations)
+    → Kept (run (setup want m) cs) k

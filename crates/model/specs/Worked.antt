@@ -25,6 +25,7 @@ use Rattle.bodies.specs.declared.body.Judged.the-variants.{Refused}
 use Rattle.bodies.specs.Body.{readBody}
 use Rattle.harl.specs.Message.{writeRequest, writeReply}
 use Rattle.ports.specs.Place.{placeOf}
+use Rattle.programs.specs.Memory.{size}
 use Rattle.model.specs.Call.{serve}
 use Rattle.model.specs.Box.{setup, answer}
 
@@ -67,7 +68,7 @@ resultOf (writing z) = bytes (hundredthsText z)
 resultOf (requesting station r) = sent (writeRequest 64 station r .number) (writeRequest 64 station r .bytes)
 resultOf (replying station r o) = sent (writeReply 64 station r o .number) (writeReply 64 station r o .bytes)
 resultOf (serving slice) =
-    let a = answer (setup (1 ∷ 2 ∷ 3 ∷ 4 ∷ [])) (serve slice 64) in
+    let a = answer (setup (1 ∷ 2 ∷ 3 ∷ 4 ∷ []) (replicate size 0)) (serve slice 64) in
     sent (a .number) (a .reply)
 resultOf (judging body) = verdict (readBody body)
 resultOf (placing first n) = place (placeOf first n .port) (placeOf first n .bit)

@@ -23,6 +23,7 @@ fn answer_line(
     outputs: &mut [[u8; 32]; 4],
     memory: &mut [[u8; 16]; 4],
     on: &mut [u16; 4],
+    programs: &mut [u8],
     stations: &[u8; 4],
     line: &[u8],
 ) {
@@ -43,6 +44,7 @@ fn answer_line(
         outputs,
         memory,
         on,
+        programs,
         stations,
         front(&slice[..], n),
         &mut reply[..],
@@ -68,6 +70,7 @@ fn answer_bytes(
     outputs: &mut [[u8; 32]; 4],
     memory: &mut [[u8; 16]; 4],
     on: &mut [u16; 4],
+    programs: &mut [u8],
     stations: &[u8; 4],
     input: &[u8],
     held: &mut [u8; 513],
@@ -87,6 +90,7 @@ fn answer_bytes(
                 outputs,
                 memory,
                 on,
+                programs,
                 stations,
                 front(held, n),
             );
@@ -112,6 +116,7 @@ fn main() {
     let mut outputs = [[0u8; 32]; 4];
     let mut memory = [[0u8; 16]; 4];
     let mut on = [0u16; 4];
+    let mut programs = [0u8; 40960];
     let mut stations = [0u8; 4];
     setup(
         &mut timers,
@@ -124,6 +129,7 @@ fn main() {
         &mut outputs,
         &mut memory,
         &mut on,
+        &mut programs[..],
         &mut stations,
         [1, 2, 3, 4],
     );
@@ -146,6 +152,7 @@ fn main() {
             &mut outputs,
             &mut memory,
             &mut on,
+            &mut programs[..],
             &stations,
             front(&input[..], got),
             &mut held,
@@ -164,6 +171,7 @@ fn main() {
             &mut outputs,
             &mut memory,
             &mut on,
+            &mut programs[..],
             &stations,
             b"\n",
             &mut held,

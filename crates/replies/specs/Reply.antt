@@ -7,6 +7,7 @@ use lib.Dec.{ltb, eqb}
 use lib.ListN.{length, getD, drop}
 use Rattle.text.specs.Whole.{readWhole, shortest, twoDigits}
 use Rattle.frame.specs.Fields.{fields, readsAs}
+use Rattle.steps.specs.Step.{typedOf}
 use Rattle.commands.specs.declared.table.Kind.{Kind}
 use Rattle.commands.specs.declared.table.Kind.the-variants as kind
 use Rattle.commands.specs.declared.table.Form.{Form}
@@ -106,6 +107,16 @@ numberPart Texts n = shortest n ++ (32 ∷ [])
 
 abbrev pub contentText : Content → List ℕ
 contentText c = numberPart (c .form) (c .number) ++ dataText (c .form) (c .payload)
+
+-- what is replied of a step, by the texts that stand there: 16 EMPTY (document 02, E3) where it was never written
+abbrev pub stepOutcome : ℕ → List (List ℕ) → Outcome
+stepOutcome n [] = outcome.Status 16
+stepOutcome n (t ∷ ts) = outcome.Data (held.Step n (typedOf (t ∷ ts)))
+
+-- the refusal number of a request that was performed: a status is its own
+abbrev pub numberIn : Outcome → ℕ
+numberIn (outcome.Data d) = 0
+numberIn (outcome.Status n) = n
 
 -- what replies to a request that was performed: the data of an LN, the status 0 of an SN, or the refusal of an LN
 abbrev pub performedText : Outcome → List ℕ

@@ -28,7 +28,7 @@ ghost use Rattle.frame.specs.Fields.{fields};
 ghost use Rattle.commands.specs.Request.{one};
 ghost use Rattle.commands.specs.declared.table.Form.the-variants.{Texts};
 ghost use Rattle.data.specs.Data.{readData};
-ghost use Rattle.replies.specs.Reply.{numbersContent, contentOf, numbersOf, dataOf, kindCode, codeOf, numberFits, judgeOutcome, statusText, numberPart, contentText, performedText, outcomeText, refusalText, readStatus, readContent, asData, readLoadOutcome, readOutcome};
+ghost use Rattle.replies.specs.Reply.{numbersContent, contentOf, numbersOf, dataOf, kindCode, codeOf, numberFits, judgeOutcome, statusText, numberPart, contentText, numberIn, performedText, outcomeText, refusalText, readStatus, readContent, asData, readLoadOutcome, readOutcome};
 
 // The status of an SN that was done.
 const DONE: [u8; 2] = *b"00";
@@ -255,6 +255,16 @@ pub fn put_outcome(area: &mut [u8], to: Cursor, store: bool, outcome: Outcome) -
     match outcome {
         Outcome::Data(held) => put_held(area, to, held),
         Outcome::Status(n) => put_status(area, to, store, n),
+    }
+}
+
+// The refusal number of a request that was performed: a status is its own, and data have 0.
+pub fn number_in(outcome: Outcome) -> u8
+    ensures { λ r. ⌜ r ≡ numberIn outcome ⌝ }
+{
+    match outcome {
+        Outcome::Data(_) => 0,
+        Outcome::Status(n) => n,
     }
 }
 

@@ -6,14 +6,14 @@ use lib.ListN.{getD}
 use Rattle.tables.specs.Tables.{Tables, withOn}
 use Rattle.slots.specs.declared.count.Count.{Count}
 use Rattle.model.specs.Call.{input, outputsOn, Answer}
-use Rattle.model.specs.Setup.{setupNumber}
+use Rattle.model.specs.Setup.{setupRefusal}
 use Rattle.model.specs.Box.{Box, box, setup, after, answer}
 
--- setup: the number, the stations and every table
-pub record SetUp (want : List ℕ) (number : ℕ) (st : List ℕ) (t : Tables) : Type 0 where
-  pub number-is : number ≡ setupNumber want
-  pub stations-are : st ≡ setup want .stations
-  pub tables-are : t ≡ setup want .tables
+-- setup, of the station numbers and the memory as it is lent: the number, the stations and every table
+pub record SetUp (want m : List ℕ) (number : ℕ) (st : List ℕ) (t : Tables) : Type 0 where
+  pub number-is : number ≡ setupRefusal want m
+  pub stations-are : st ≡ setup want m .stations
+  pub tables-are : t ≡ setup want m .tables
 
 -- an input call: the number and every table
 pub record InputSet (b : Box) (slot port byte : ℕ) (number : ℕ) (t : Tables) : Type 0 where

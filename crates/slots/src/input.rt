@@ -1,12 +1,14 @@
 // Input calls: a byte put into an input port, as the arm's wiring does.
 use crate::slot::is_fitted;
 use commands::request::Port;
+ghost use Prim.Native.Nat.{ℕ};
+ghost use mathlib.Core.List.{List};
 ghost use Rattle.tables.specs.Tables.{tables};
 ghost use Rattle.model.specs.Box.{box};
 ghost use Rattle.slots.specs.Entries.{InputSet};
 
 // Puts a byte into an input port of slot's arm. Refused, with number 14: a slot above 3 or unfitted, or a
-// port above 31.
+// port above 31. The memory of the START programs is not lent: whatever it holds, it stays.
 pub fn input(
     timers: &mut [[u16; 16]; 4],
     registers: &mut [[u16; 64]; 4],
@@ -23,7 +25,7 @@ pub fn input(
     port: Port,
     byte: u8,
 ) -> u8
-    ensures { λ r. ⌜ InputSet (box (now (stations .entry)) (tables (now (timers .entry)) (now (registers .entry)) (now (x .entry)) (now (y .entry)) (now (z .entry)) (now (w .entry)) (now (inputs .entry)) (now (outputs .entry)) (now (memory .entry)) (now (on .entry)))) slot (port .0) byte r (tables (now (timers .exit)) (now (registers .exit)) (now (x .exit)) (now (y .exit)) (now (z .exit)) (now (w .exit)) (now (inputs .exit)) (now (outputs .exit)) (now (memory .exit)) (now (on .exit))) ⌝ }
+    ensures { λ r. ⌜ ((m : List ℕ) → InputSet (box (now (stations .entry)) (tables (now (timers .entry)) (now (registers .entry)) (now (x .entry)) (now (y .entry)) (now (z .entry)) (now (w .entry)) (now (inputs .entry)) (now (outputs .entry)) (now (memory .entry)) (now (on .entry)) m)) slot (port .0) byte r (tables (now (timers .exit)) (now (registers .exit)) (now (x .exit)) (now (y .exit)) (now (z .exit)) (now (w .exit)) (now (inputs .exit)) (now (outputs .exit)) (now (memory .exit)) (now (on .exit)) m)) ⌝ }
 {
     if !is_fitted(stations, slot) {
         return 14;

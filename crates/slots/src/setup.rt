@@ -1,8 +1,11 @@
 // Setup: a new box in memory that the caller lends.
+use programs::memory::SIZE;
+ghost use Prim.Native.Nat.{ℕ};
 ghost use mathlib.Core.Path.{_≡_};
+ghost use mathlib.Core.List.{List};
 ghost use lib.ListN.{drop};
 ghost use Rattle.tables.specs.Tables.{tables, zeros};
-ghost use Rattle.model.specs.Setup.{tooHigh, contains, repeats, setupNumber};
+ghost use Rattle.model.specs.Setup.{tooHigh, contains, repeats, setupRefusal};
 ghost use Rattle.slots.specs.Entries.{SetUp};
 
 // Whether one of the slots from `from` on is given the station s.
@@ -50,10 +53,13 @@ fn is_too_high(want: [u16; 4]) -> bool
     false
 }
 
-// Check 13 of four station numbers; 0 where it passes.
-fn judge_setup(want: [u16; 4]) -> u8
-    ensures { λ r. ⌜ r ≡ setupNumber want ⌝ }
+// Check 1 of the lent memory and check 13 of four station numbers; 0 where both pass.
+fn judge_setup(programs: &[u8], want: [u16; 4]) -> u8
+    ensures { λ r. ⌜ r ≡ setupRefusal want (now (programs .entry)) ⌝ }
 {
+    if programs.len() != SIZE {
+        return 1;
+    }
     if is_too_high(want) {
         return 13;
     }
@@ -76,7 +82,7 @@ fn clear(
     memory: &mut [[u8; 16]; 4],
     on: &mut [u16; 4],
 )
-    ensures { λ _. ⌜ tables (now (timers .exit)) (now (registers .exit)) (now (x .exit)) (now (y .exit)) (now (z .exit)) (now (w .exit)) (now (inputs .exit)) (now (outputs .exit)) (now (memory .exit)) (now (on .exit)) ≡ zeros ⌝ }
+    ensures { λ _. ⌜ ((m : List ℕ) → tables (now (timers .exit)) (now (registers .exit)) (now (x .exit)) (now (y .exit)) (now (z .exit)) (now (w .exit)) (now (inputs .exit)) (now (outputs .exit)) (now (memory .exit)) (now (on .exit)) m ≡ zeros m) ⌝ }
 {
     *timers = [[0; 16]; 4];
     *registers = [[0; 64]; 4];
@@ -90,8 +96,8 @@ fn clear(
     *on = [0; 4];
 }
 
-// Sets up a new box, whatever the memory held: every table zero, and each slot with its station, or unfitted
-// where it is 0. Refused: number 13, and no slot is fitted.
+// Sets up a new box, whatever the memory held: every table zero, the START programs cleared, and each slot with its station, or
+// unfitted where it is 0. Refused: number 1 or 13, no slot is fitted, and the START programs are untouched.
 pub fn setup(
     timers: &mut [[u16; 16]; 4],
     registers: &mut [[u16; 64]; 4],
@@ -103,17 +109,19 @@ pub fn setup(
     outputs: &mut [[u8; 32]; 4],
     memory: &mut [[u8; 16]; 4],
     on: &mut [u16; 4],
+    programs: &mut [u8],
     stations: &mut [u8; 4],
     want: [u16; 4],
 ) -> u8
-    ensures { λ r. ⌜ SetUp want r (now (stations .exit)) (tables (now (timers .exit)) (now (registers .exit)) (now (x .exit)) (now (y .exit)) (now (z .exit)) (now (w .exit)) (now (inputs .exit)) (now (outputs .exit)) (now (memory .exit)) (now (on .exit))) ⌝ }
+    ensures { λ r. ⌜ SetUp want (now (programs .entry)) r (now (stations .exit)) (tables (now (timers .exit)) (now (registers .exit)) (now (x .exit)) (now (y .exit)) (now (z .exit)) (now (w .exit)) (now (inputs .exit)) (now (outputs .exit)) (now (memory .exit)) (now (on .exit)) (now (programs .exit))) ⌝ }
 {
     clear(timers, registers, x, y, z, w, inputs, outputs, memory, on);
-    let number = judge_setup(want);
+    let number = judge_setup(programs, want);
     if number != 0 {
         *stations = [0; 4];
         return number;
     }
+    programs::memory::clear(programs);
     *stations = [want[0] as u8, want[1] as u8, want[2] as u8, want[3] as u8];
     0
 }

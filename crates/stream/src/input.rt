@@ -42,6 +42,7 @@ fn end_line(
     outputs: &mut [[u8; 32]; 4],
     memory: &mut [[u8; 16]; 4],
     on: &mut [u16; 4],
+    programs: &mut [u8],
     stations: &[u8; 4],
     held: &[u8],
     out: &mut [u8],
@@ -49,7 +50,7 @@ fn end_line(
 ) -> Progress
     requires { ⌜ Within (now held) (now out) start ⌝ }
     requires { ⌜ start .waiting + 132 ≤ 65536 ⌝ }
-    ensures { λ r. ⌜ cellOf (now (stations .entry)) (tables (now (timers .exit)) (now (registers .exit)) (now (x .exit)) (now (y .exit)) (now (z .exit)) (now (w .exit)) (now (inputs .exit)) (now (outputs .exit)) (now (memory .exit)) (now (on .exit))) (now (held .exit)) (now (out .exit)) r ≡ ended (cellOf (now (stations .entry)) (tables (now (timers .entry)) (now (registers .entry)) (now (x .entry)) (now (y .entry)) (now (z .entry)) (now (w .entry)) (now (inputs .entry)) (now (outputs .entry)) (now (memory .entry)) (now (on .entry))) (now (held .entry)) (now (out .entry)) start) ⌝ }
+    ensures { λ r. ⌜ cellOf (now (stations .entry)) (tables (now (timers .exit)) (now (registers .exit)) (now (x .exit)) (now (y .exit)) (now (z .exit)) (now (w .exit)) (now (inputs .exit)) (now (outputs .exit)) (now (memory .exit)) (now (on .exit)) (now (programs .exit))) (now (held .exit)) (now (out .exit)) r ≡ ended (cellOf (now (stations .entry)) (tables (now (timers .entry)) (now (registers .entry)) (now (x .entry)) (now (y .entry)) (now (z .entry)) (now (w .entry)) (now (inputs .entry)) (now (outputs .entry)) (now (memory .entry)) (now (on .entry)) (now (programs .entry))) (now (held .entry)) (now (out .entry)) start) ⌝ }
     ensures { λ r. ⌜ Within (now (held .exit)) (now (out .exit)) r ⌝ }
 {
     let n = start.held;
@@ -65,6 +66,7 @@ fn end_line(
         outputs,
         memory,
         on,
+        programs,
         stations,
         front(held, n),
         out,
@@ -88,6 +90,7 @@ fn take_line(
     outputs: &mut [[u8; 32]; 4],
     memory: &mut [[u8; 16]; 4],
     on: &mut [u16; 4],
+    programs: &mut [u8],
     stations: &[u8; 4],
     input: &[u8],
     held: &mut [u8],
@@ -96,7 +99,7 @@ fn take_line(
 ) -> Part
     requires { ⌜ Within (now held) (now out) start ⌝ }
     requires { ⌜ start .waiting + 132 ≤ 65536 ⌝ }
-    ensures { λ r. ⌜ Took (cellOf (now (stations .entry)) (tables (now (timers .entry)) (now (registers .entry)) (now (x .entry)) (now (y .entry)) (now (z .entry)) (now (w .entry)) (now (inputs .entry)) (now (outputs .entry)) (now (memory .entry)) (now (on .entry))) (now (held .entry)) (now (out .entry)) start) (now (input .entry)) (r .taken) (cellOf (now (stations .entry)) (tables (now (timers .exit)) (now (registers .exit)) (now (x .exit)) (now (y .exit)) (now (z .exit)) (now (w .exit)) (now (inputs .exit)) (now (outputs .exit)) (now (memory .exit)) (now (on .exit))) (now (held .exit)) (now (out .exit)) (r .state)) ⌝ }
+    ensures { λ r. ⌜ Took (cellOf (now (stations .entry)) (tables (now (timers .entry)) (now (registers .entry)) (now (x .entry)) (now (y .entry)) (now (z .entry)) (now (w .entry)) (now (inputs .entry)) (now (outputs .entry)) (now (memory .entry)) (now (on .entry)) (now (programs .entry))) (now (held .entry)) (now (out .entry)) start) (now (input .entry)) (r .taken) (cellOf (now (stations .entry)) (tables (now (timers .exit)) (now (registers .exit)) (now (x .exit)) (now (y .exit)) (now (z .exit)) (now (w .exit)) (now (inputs .exit)) (now (outputs .exit)) (now (memory .exit)) (now (on .exit)) (now (programs .exit))) (now (held .exit)) (now (out .exit)) (r .state)) ⌝ }
     ensures { λ r. ⌜ Within (now (held .exit)) (now (out .exit)) (r .state) ⌝ }
     ensures { λ r. ⌜ (0 < length (now (input .entry)) → 0 < r .taken) ⌝ }
 {
@@ -123,6 +126,7 @@ fn take_line(
         outputs,
         memory,
         on,
+        programs,
         stations,
         held,
         out,
@@ -146,6 +150,7 @@ pub fn take_block(
     outputs: &mut [[u8; 32]; 4],
     memory: &mut [[u8; 16]; 4],
     on: &mut [u16; 4],
+    programs: &mut [u8],
     stations: &[u8; 4],
     input: &[u8],
     held: &mut [u8],
@@ -153,7 +158,7 @@ pub fn take_block(
     start: Progress,
 ) -> Part
     requires { ⌜ Within (now held) (now out) start ⌝ }
-    ensures { λ r. ⌜ Took (cellOf (now (stations .entry)) (tables (now (timers .entry)) (now (registers .entry)) (now (x .entry)) (now (y .entry)) (now (z .entry)) (now (w .entry)) (now (inputs .entry)) (now (outputs .entry)) (now (memory .entry)) (now (on .entry))) (now (held .entry)) (now (out .entry)) start) (now (input .entry)) (r .taken) (cellOf (now (stations .entry)) (tables (now (timers .exit)) (now (registers .exit)) (now (x .exit)) (now (y .exit)) (now (z .exit)) (now (w .exit)) (now (inputs .exit)) (now (outputs .exit)) (now (memory .exit)) (now (on .exit))) (now (held .exit)) (now (out .exit)) (r .state)) ⌝ }
+    ensures { λ r. ⌜ Took (cellOf (now (stations .entry)) (tables (now (timers .entry)) (now (registers .entry)) (now (x .entry)) (now (y .entry)) (now (z .entry)) (now (w .entry)) (now (inputs .entry)) (now (outputs .entry)) (now (memory .entry)) (now (on .entry)) (now (programs .entry))) (now (held .entry)) (now (out .entry)) start) (now (input .entry)) (r .taken) (cellOf (now (stations .entry)) (tables (now (timers .exit)) (now (registers .exit)) (now (x .exit)) (now (y .exit)) (now (z .exit)) (now (w .exit)) (now (inputs .exit)) (now (outputs .exit)) (now (memory .exit)) (now (on .exit)) (now (programs .exit))) (now (held .exit)) (now (out .exit)) (r .state)) ⌝ }
     ensures { λ r. ⌜ (r .taken ≡ length (now (input .entry))) ⊎ (65404 < r .state .waiting) ⌝ }
     ensures { λ r. ⌜ Within (now (held .exit)) (now (out .exit)) (r .state) ⌝ }
 {
@@ -171,6 +176,7 @@ pub fn take_block(
             outputs,
             memory,
             on,
+            programs,
             stations,
             &input[i..],
             held,
@@ -198,6 +204,7 @@ pub fn answer_last(
     outputs: &mut [[u8; 32]; 4],
     memory: &mut [[u8; 16]; 4],
     on: &mut [u16; 4],
+    programs: &mut [u8],
     stations: &[u8; 4],
     held: &[u8],
     out: &mut [u8],
@@ -205,7 +212,7 @@ pub fn answer_last(
 ) -> Progress
     requires { ⌜ Within (now held) (now out) start ⌝ }
     requires { ⌜ start .waiting + 132 ≤ 65536 ⌝ }
-    ensures { λ r. ⌜ cellOf (now (stations .entry)) (tables (now (timers .exit)) (now (registers .exit)) (now (x .exit)) (now (y .exit)) (now (z .exit)) (now (w .exit)) (now (inputs .exit)) (now (outputs .exit)) (now (memory .exit)) (now (on .exit))) (now (held .exit)) (now (out .exit)) r ≡ finished (cellOf (now (stations .entry)) (tables (now (timers .entry)) (now (registers .entry)) (now (x .entry)) (now (y .entry)) (now (z .entry)) (now (w .entry)) (now (inputs .entry)) (now (outputs .entry)) (now (memory .entry)) (now (on .entry))) (now (held .entry)) (now (out .entry)) start) ⌝ }
+    ensures { λ r. ⌜ cellOf (now (stations .entry)) (tables (now (timers .exit)) (now (registers .exit)) (now (x .exit)) (now (y .exit)) (now (z .exit)) (now (w .exit)) (now (inputs .exit)) (now (outputs .exit)) (now (memory .exit)) (now (on .exit)) (now (programs .exit))) (now (held .exit)) (now (out .exit)) r ≡ finished (cellOf (now (stations .entry)) (tables (now (timers .entry)) (now (registers .entry)) (now (x .entry)) (now (y .entry)) (now (z .entry)) (now (w .entry)) (now (inputs .entry)) (now (outputs .entry)) (now (memory .entry)) (now (on .entry)) (now (programs .entry))) (now (held .entry)) (now (out .entry)) start) ⌝ }
     ensures { λ r. ⌜ Within (now (held .exit)) (now (out .exit)) r ⌝ }
 {
     if start.held == 0 {
@@ -222,6 +229,7 @@ pub fn answer_last(
         outputs,
         memory,
         on,
+        programs,
         stations,
         held,
         out,

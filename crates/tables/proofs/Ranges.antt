@@ -1,7 +1,7 @@
 -- The bounds that the number and the data of a request keep where they are in range.
 use Prim.Native.Nat.{ℕ, _≤_, _<_}
-use mathlib.Core.Path.{_≡_}
-use mathlib.Core.Bool.{true}
+use mathlib.Core.Path.{_≡_, refl}
+use mathlib.Core.Bool.{true, false}
 use native.Mathlib.Omega.{arith}
 use lib.IntN.{ℤ, pos, negsuc, natAbs}
 use mir.Facts.{toZ-ofZ}
@@ -9,17 +9,20 @@ use mir.Syntax.{w32}
 use mir.Val.{toZ, ofZ}
 use Rattle.commands.specs.declared.table.Kind.{Kind}
 use Rattle.commands.specs.declared.table.Kind.the-variants as kind
+use Rattle.steps.specs.Step.{isStep}
+use Rattle.commands.specs.declared.table.Rule.{Rule}
+use Rattle.commands.specs.declared.request.Payload.{Payload}
+use Rattle.commands.specs.declared.request.Payload.the-variants as payload
 use Rattle.commands.specs.declared.request.Load.{Load}
 use Rattle.commands.specs.declared.request.Load.the-variants as load
 use Rattle.commands.specs.declared.request.Store.{Store}
 use Rattle.commands.specs.declared.request.Store.the-variants as store
-use Rattle.commands.specs.Table.{timers, registers, rows, signals, ports, memoryBits, memoryPorts}
+use Rattle.commands.specs.Table.{stores, timers, registers, rows, signals, ports, memoryBits, memoryPorts, steps}
 use Rattle.commands.specs.Request.{one}
 use Rattle.numbers.specs.Ranges.{limitsOf, allInRange}
 use Rattle.data.specs.Ranges.{judge}
 use Rattle.numbers.proofs.Bounds.{in-size, all-x}
-use Rattle.data.proofs.Bounds.{passed}
-use Rattle.harl.proofs.Accepted.{bare}
+use Rattle.data.proofs.Bounds.{passed, judged}
 use Rattle.tables.specs.Tables.{readBy, LoadInRange, StoreInRange}
 
 -- of an LN
@@ -33,6 +36,7 @@ LoadBound (load.Output g) = g .0 < 256
 LoadBound (load.OutputPort p) = p .0 < 32
 LoadBound (load.MemoryBit g) = (256 ≤ g .0) × (g .0 < 384)
 LoadBound (load.MemoryPort p) = p .0 < 16
+LoadBound (load.Step n) = n < 256
 
 load-bound : (l : Load) → LoadInRange l → LoadBound l
 load-bound (load.Timer n) h = omega (arith, passed _ _ _ h .high)
@@ -44,6 +48,7 @@ load-bound (load.Output g) h = omega (arith, passed _ _ _ h .high)
 load-bound (load.OutputPort p) h = omega (arith, passed _ _ _ h .high)
 load-bound (load.MemoryBit g) h = let p = passed _ _ _ h in (p .low, omega (arith, p .high))
 load-bound (load.MemoryPort p) h = omega (arith, passed _ _ _ h .high)
+load-bound (load.Step n) h = omega (arith, passed _ _ _ h .high)
 
 -- a value whose size is below a limit, and which 32 bits keep
 pub record Small (limit : ℕ) (v : ℤ) : Type 0 where
@@ -68,26 +73,31 @@ DataBound (store.Output g v) = Small 2 v
 DataBound (store.OutputPort p v) = Small 256 v
 DataBound (store.MemoryBit g v) = Small 2 v
 DataBound (store.MemoryPort p v) = Small 256 v
+DataBound (store.Step n s) = isStep s ≡ true
 
 data-bound : (q : Store) → StoreInRange q → DataBound q
-data-bound (store.Timer n v) h = small kind.Timer 65536 v (passed _ _ _ h .values) (omega arith) (omega arith)
-data-bound (store.Register n v) h = small kind.Register 65536 v (passed _ _ _ h .values) (omega arith) (omega arith)
+data-bound (store.Timer n v) h = small kind.Timer 65536 v (passed _ _ _ h .payload) (omega arith) (omega arith)
+data-bound (store.Register n v) h = small kind.Register 65536 v (passed _ _ _ h .payload) (omega arith) (omega arith)
 data-bound (store.Row n r) h = tt
-data-bound (store.Output g v) h = small kind.Signal 2 v (passed _ _ _ h .values) (omega arith) (omega arith)
-data-bound (store.OutputPort p v) h = small kind.Port 256 v (passed _ _ _ h .values) (omega arith) (omega arith)
-data-bound (store.MemoryBit g v) h = small kind.Signal 2 v (passed _ _ _ h .values) (omega arith) (omega arith)
-data-bound (store.MemoryPort p v) h = small kind.Port 256 v (passed _ _ _ h .values) (omega arith) (omega arith)
+data-bound (store.Output g v) h = small kind.Signal 2 v (passed _ _ _ h .payload) (omega arith) (omega arith)
+data-bound (store.OutputPort p v) h = small kind.Port 256 v (passed _ _ _ h .payload) (omega arith) (omega arith)
+data-bound (store.MemoryBit g v) h = small kind.Signal 2 v (passed _ _ _ h .payload) (omega arith) (omega arith)
+data-bound (store.MemoryPort p v) h = small kind.Port 256 v (passed _ _ _ h .payload) (omega arith) (omega arith)
+data-bound (store.Step n s) h = passed _ _ _ h .payload
 
 -- the number of an SN is one of its LN's: they share a row of the command table
+number-of : (ln : Rule) (n : ℕ) (p : Payload) → ln .store ≡ false → judge (stores ln) n p ≡ 0 → judge ln n payload.None ≡ 0
+number-of ln n p e h = let w = passed (stores ln) n p h in judged ln n payload.None (w .low) (w .high) (rw e)
+
 pub readable : (q : Store) → StoreInRange q → LoadInRange (readBy q)
-unfolding judge
-readable (store.Timer n v) h = bare timers n (one v) h
-readable (store.Register n v) h = bare registers n (one v) h
-readable (store.Row n r) h = bare rows n r h
-readable (store.Output g v) h = bare signals (g .0) (one v) h
-readable (store.OutputPort p v) h = bare ports (p .0) (one v) h
-readable (store.MemoryBit g v) h = bare memoryBits (g .0) (one v) h
-readable (store.MemoryPort p v) h = bare memoryPorts (p .0) (one v) h
+readable (store.Timer n v) h = number-of timers n (payload.Numbers (one v)) refl h
+readable (store.Register n v) h = number-of registers n (payload.Numbers (one v)) refl h
+readable (store.Row n r) h = number-of rows n (payload.Numbers r) refl h
+readable (store.Output g v) h = number-of signals (g .0) (payload.Numbers (one v)) refl h
+readable (store.OutputPort p v) h = number-of ports (p .0) (payload.Numbers (one v)) refl h
+readable (store.MemoryBit g v) h = number-of memoryBits (g .0) (payload.Numbers (one v)) refl h
+readable (store.MemoryPort p v) h = number-of memoryPorts (p .0) (payload.Numbers (one v)) refl h
+readable (store.Step n s) h = number-of steps n (payload.Texts s) refl h
 
 -- of a request that was matched
 pub load-within : {l m : Load} → l ≡ m → LoadInRange l → LoadBound m

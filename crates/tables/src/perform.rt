@@ -15,14 +15,22 @@ use ports::access::store_output_port;
 use ports::access::store_port;
 use ports::place::memory_place;
 use ports::place::signal_place;
+use programs::memory::Found;
+use programs::memory::load_step;
+use programs::memory::store_step;
 use text::hundredths::unsigned_abs;
 ghost use mathlib.Core.Path.{_≡_};
 ghost use Prim.Native.Nat.{_<_};
 ghost use lib.ListN.{length, getD, set};
 ghost use lib.IntN.{natAbs, pos};
 ghost use Rattle.replies.specs.declared.reply.Data.the-variants as held;
+ghost use Rattle.programs.specs.Memory.{size, stepAt};
+ghost use Rattle.replies.specs.Reply.{stepOutcome};
 ghost use Rattle.harl.specs.Message.{judgeRequest};
 ghost use Rattle.tables.specs.Tables.{Tables, columns, rowAt, tables, atz2, set2, stored, LoadInRange, StoreInRange, Loaded, Performed};
+
+// The refusal of a step that was never written.
+const EMPTY: u8 = 16;
 
 // The value of a timer or a register.
 fn load_word(words: &[u16], n: u16) -> i32
@@ -60,6 +68,18 @@ fn load_row(
     })
 }
 
+// What is replied of step n of slot's program.
+fn load_program(programs: &[u8], slot: usize, n: u16) -> Outcome
+    requires { ⌜ (length (now programs) ≡ size) × ((slot < 4) × (n < 256)) ⌝ }
+    ensures { λ r. ⌜ r ≡ stepOutcome n (stepAt (now (programs .entry)) slot n) ⌝ }
+{
+    let found = load_step(programs, slot, n);
+    match found {
+        Found::Of(step) => Outcome::Data(Data::Step(n, step)),
+        Found::Empty => Outcome::Status(EMPTY),
+    }
+}
+
 // What slot's arm holds under the number of a load, whatever the number of outputs that is kept.
 fn run_load(
     timers: &[[u16; 16]; 4],
@@ -71,22 +91,25 @@ fn run_load(
     inputs: &[[u8; 32]; 4],
     outputs: &[[u8; 32]; 4],
     memory: &[[u8; 16]; 4],
+    programs: &[u8],
     slot: usize,
     load: Load,
-) -> Data
+) -> Outcome
     requires { ⌜ (slot < 4) × LoadInRange load ⌝ }
-    ensures { λ r. ⌜ Loaded slot load (tables (now (timers .entry)) (now (registers .entry)) (now (x .entry)) (now (y .entry)) (now (z .entry)) (now (w .entry)) (now (inputs .entry)) (now (outputs .entry)) (now (memory .entry))) r ⌝ }
+    requires { ⌜ length (now programs) ≡ size ⌝ }
+    ensures { λ r. ⌜ Loaded slot load (λ on. tables (now (timers .entry)) (now (registers .entry)) (now (x .entry)) (now (y .entry)) (now (z .entry)) (now (w .entry)) (now (inputs .entry)) (now (outputs .entry)) (now (memory .entry)) on (now (programs .entry))) r ⌝ }
 {
     match load {
-        Load::Timer(n) => Data::Timer(load_word(&timers[slot][..], n)),
-        Load::Register(n) => Data::Register(load_word(&registers[slot][..], n)),
-        Load::Row(n) => load_row(x, y, z, w, slot, n),
-        Load::Input(s) => load_signal(&inputs[slot][..], signal_place(s)),
-        Load::InputPort(p) => load_port(&inputs[slot][..], p),
-        Load::Output(s) => load_signal(&outputs[slot][..], signal_place(s)),
-        Load::OutputPort(p) => load_port(&outputs[slot][..], p),
-        Load::MemoryBit(s) => load_signal(&memory[slot][..], memory_place(s)),
-        Load::MemoryPort(p) => load_port(&memory[slot][..], p),
+        Load::Timer(n) => Outcome::Data(Data::Timer(load_word(&timers[slot][..], n))),
+        Load::Register(n) => Outcome::Data(Data::Register(load_word(&registers[slot][..], n))),
+        Load::Row(n) => Outcome::Data(load_row(x, y, z, w, slot, n)),
+        Load::Input(s) => Outcome::Data(load_signal(&inputs[slot][..], signal_place(s))),
+        Load::InputPort(p) => Outcome::Data(load_port(&inputs[slot][..], p)),
+        Load::Output(s) => Outcome::Data(load_signal(&outputs[slot][..], signal_place(s))),
+        Load::OutputPort(p) => Outcome::Data(load_port(&outputs[slot][..], p)),
+        Load::MemoryBit(s) => Outcome::Data(load_signal(&memory[slot][..], memory_place(s))),
+        Load::MemoryPort(p) => Outcome::Data(load_port(&memory[slot][..], p)),
+        Load::Step(n) => load_program(programs, slot, n),
     }
 }
 
@@ -140,13 +163,15 @@ fn run_store(
     outputs: &mut [[u8; 32]; 4],
     memory: &mut [[u8; 16]; 4],
     on: &mut [u16; 4],
+    programs: &mut [u8],
     slot: usize,
     store: Store,
 )
     ghost { Tables }
-    requires { λ t. ⌜ tables (now timers) (now registers) (now x) (now y) (now z) (now w) (now inputs) (now outputs) (now memory) (now on) ≡ t ⌝ }
+    requires { λ t. ⌜ tables (now timers) (now registers) (now x) (now y) (now z) (now w) (now inputs) (now outputs) (now memory) (now on) (now programs) ≡ t ⌝ }
     requires { λ t. ⌜ (slot < 4) × StoreInRange store ⌝ }
-    ensures { λ t _. ⌜ tables (now (timers .exit)) (now (registers .exit)) (now (x .exit)) (now (y .exit)) (now (z .exit)) (now (w .exit)) (now (inputs .exit)) (now (outputs .exit)) (now (memory .exit)) (now (on .exit)) ≡ stored slot store t ⌝ }
+    requires { λ t. ⌜ length (now programs) ≡ size ⌝ }
+    ensures { λ t _. ⌜ tables (now (timers .exit)) (now (registers .exit)) (now (x .exit)) (now (y .exit)) (now (z .exit)) (now (w .exit)) (now (inputs .exit)) (now (outputs .exit)) (now (memory .exit)) (now (on .exit)) (now (programs .exit)) ≡ stored slot store t ⌝ }
 {
     match store {
         Store::Timer(n, v) => store_word(&mut timers[slot][..], n, v),
@@ -160,10 +185,11 @@ fn run_store(
         }
         Store::MemoryBit(s, v) => store_bit(&mut memory[slot][..], memory_place(s), v),
         Store::MemoryPort(p, v) => store_port(&mut memory[slot][..], p, v),
+        Store::Step(n, step) => store_step(programs, slot, n, step),
     }
 }
 
-// Performs a request on slot's arm: a load returns its data and changes nothing, a store returns status 0.
+// Performs a request on slot's arm: a load returns its data, or EMPTY, and changes nothing; a store returns status 0.
 pub fn perform(
     timers: &mut [[u16; 16]; 4],
     registers: &mut [[u16; 64]; 4],
@@ -175,16 +201,18 @@ pub fn perform(
     outputs: &mut [[u8; 32]; 4],
     memory: &mut [[u8; 16]; 4],
     on: &mut [u16; 4],
+    programs: &mut [u8],
     slot: usize,
     request: Request,
 ) -> Outcome
     ghost { Tables }
-    requires { λ t. ⌜ tables (now timers) (now registers) (now x) (now y) (now z) (now w) (now inputs) (now outputs) (now memory) (now on) ≡ t ⌝ }
+    requires { λ t. ⌜ tables (now timers) (now registers) (now x) (now y) (now z) (now w) (now inputs) (now outputs) (now memory) (now on) (now programs) ≡ t ⌝ }
     requires { λ t. ⌜ (slot < 4) × (judgeRequest request ≡ 0) ⌝ }
-    ensures { λ t r. ⌜ Performed slot request t (tables (now (timers .exit)) (now (registers .exit)) (now (x .exit)) (now (y .exit)) (now (z .exit)) (now (w .exit)) (now (inputs .exit)) (now (outputs .exit)) (now (memory .exit)) (now (on .exit))) r ⌝ }
+    requires { λ t. ⌜ length (now programs) ≡ size ⌝ }
+    ensures { λ t r. ⌜ Performed slot request t (tables (now (timers .exit)) (now (registers .exit)) (now (x .exit)) (now (y .exit)) (now (z .exit)) (now (w .exit)) (now (inputs .exit)) (now (outputs .exit)) (now (memory .exit)) (now (on .exit)) (now (programs .exit))) r ⌝ }
 {
     match request {
-        Request::Load(load) => Outcome::Data(run_load(
+        Request::Load(load) => run_load(
             timers,
             registers,
             x,
@@ -194,9 +222,10 @@ pub fn perform(
             inputs,
             outputs,
             memory,
+            programs,
             slot,
             load,
-        )),
+        ),
         Request::Store(store) => {
             run_store(
                 timers,
@@ -209,6 +238,7 @@ pub fn perform(
                 outputs,
                 memory,
                 on,
+                programs,
                 slot,
                 store,
             );

@@ -41,7 +41,7 @@ returns : tie.Need-returns
 returns c = search needs
 
 slice-aggregate-front : tie.Need-slice-aggregate-front
-slice-aggregate-front c = slice-length _ _ refl (c .before .before .before .before .before .before .before .before .before .before .before .before .before .before .read-line .ensures .1)
+slice-aggregate-front c = slice-length _ _ refl (c .before .before .before .before .before .before .before .before .before .before .before .before .before .before .before .read-line .ensures .1)
 
 front-requires : tie.Need-front-requires
 front-requires c κs = search needs
@@ -62,7 +62,7 @@ slice-aggregate-put-answer-2 : tie.Need-slice-aggregate-put-answer-2
 slice-aggregate-put-answer-2 c = sym (length-take-le _ _ (search needs))
 
 put-answer-requires : tie.Need-put-answer-requires
-put-answer-requires c κs = line-fits _ _ _ (search needs) (served-fits (c .before .before .before .serve .ensures))
+put-answer-requires c κs = line-fits _ _ _ (search needs) (served-fits (c .before .before .before .before .before .serve .ensures))
 
 slice-aggregate-front-2 : tie.Need-slice-aggregate-front-2
 slice-aggregate-front-2 c = search needs
@@ -78,6 +78,9 @@ put-requires-2 c κs = search needs
 
 put-position-requires : tie.Need-put-position-requires
 put-position-requires c κs = search needs
+
+same-length : tie.Need-same-length
+same-length c = search needs
 
 returns-2 : tie.Need-returns-2
 returns-2 c = search needs
@@ -105,4 +108,5 @@ answer-line-spec =
     front-requires-2
     put-requires-2
     put-position-requires
+    same-length
     returns-2)

@@ -1,4 +1,4 @@
--- The invariant: the buffer keeps its length. The measure: the blocks left.
+-- The invariant: the buffer and the lent memory keep their length. The measure: the blocks left.
 use Prim.Native.Nat.{_≤_, _-_}
 use mathlib.Core.Path.{_≡_}
 use borrow.Author.Needs.{needs}
@@ -7,12 +7,15 @@ use Rattle.positions.proofs.main.Statement.{statement}
 use Rattle.positions.proofs.main.Tie as tie
 
 abbrev Inv-loop : tie.InvT-loop
-Inv-loop timers₀ registers₀ x₀ y₀ z₀ w₀ inputs₀ outputs₀ memory₀ on₀ stations input₀ held₀ n₀ t16 counter₀ timers registers x y z w inputs outputs memory on input held n counter =
-    (65536 ≡ length input) × (counter ≤ 18446744073709551615)
+Inv-loop timers₀ registers₀ x₀ y₀ z₀ w₀ inputs₀ outputs₀ memory₀ on₀ programs₀ stations input₀ held₀ n₀ t16 counter₀ timers registers x y z w inputs outputs memory on programs input held n counter =
+    (65536 ≡ length input) × ((40960 ≡ length programs) × (counter ≤ 18446744073709551615))
 
 abbrev μ-loop : tie.MeasureT-loop
-μ-loop timers₀ registers₀ x₀ y₀ z₀ w₀ inputs₀ outputs₀ memory₀ on₀ stations input₀ held₀ n₀ t16 counter₀ timers registers x y z w inputs outputs memory on input held n counter =
+μ-loop timers₀ registers₀ x₀ y₀ z₀ w₀ inputs₀ outputs₀ memory₀ on₀ programs₀ stations input₀ held₀ n₀ t16 counter₀ timers registers x y z w inputs outputs memory on programs input held n counter =
     18446744073709551615 - counter
+
+slice-aggregate-setup : tie.Need-slice-aggregate-setup Inv-loop μ-loop
+slice-aggregate-setup c = search needs
 
 setup-requires : tie.Need-setup-requires Inv-loop μ-loop
 setup-requires c κs = search needs
@@ -28,6 +31,9 @@ slice-aggregate-read-full c = search needs
 
 read-full-requires : tie.Need-read-full-requires Inv-loop μ-loop
 read-full-requires c κs = search needs
+
+slice-aggregate-answer-bytes : tie.Need-slice-aggregate-answer-bytes Inv-loop μ-loop
+slice-aggregate-answer-bytes c = search needs
 
 slice-aggregate-front : tie.Need-slice-aggregate-front Inv-loop μ-loop
 slice-aggregate-front c = search needs
@@ -47,8 +53,11 @@ loop-less c = search needs
 loop-again : tie.Need-loop-again Inv-loop μ-loop
 loop-again c = search needs
 
-slice-aggregate-answer-bytes : tie.Need-slice-aggregate-answer-bytes Inv-loop μ-loop
-slice-aggregate-answer-bytes c = search needs
+slice-aggregate-answer-bytes-2 : tie.Need-slice-aggregate-answer-bytes-2 Inv-loop μ-loop
+slice-aggregate-answer-bytes-2 c = search needs
+
+slice-aggregate-answer-bytes-3 : tie.Need-slice-aggregate-answer-bytes-3 Inv-loop μ-loop
+slice-aggregate-answer-bytes-3 c = search needs
 
 answer-bytes-requires-2 : tie.Need-answer-bytes-requires-2 Inv-loop μ-loop
 answer-bytes-requires-2 c κs = search needs
@@ -65,18 +74,21 @@ main-spec =
     (tie.spec
     Inv-loop
     μ-loop
+    slice-aggregate-setup
     setup-requires
     large-buffer-requires
     loop-holds
     slice-aggregate-read-full
     read-full-requires
+    slice-aggregate-answer-bytes
     slice-aggregate-front
     front-requires
     answer-bytes-requires
     add-counter
     loop-less
     loop-again
-    slice-aggregate-answer-bytes
+    slice-aggregate-answer-bytes-2
+    slice-aggregate-answer-bytes-3
     answer-bytes-requires-2
     returns
     returns-2)

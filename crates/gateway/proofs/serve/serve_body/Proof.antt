@@ -53,13 +53,13 @@ enum-known-judged c = search needs
 
 perform-requires : tie.Need-perform-requires
 perform-requires c κs =
-    let v = c .before .before .before .before .before .before .before .before .before .before .before in
+    let v = c .before .before .before .before .before .before .before .before .before .before .before .before in
     let b = v .before .before in
-    let a = b .before .before .before .before in
-    (a .pre .0 .0, accepted-in-range _ (v .judged .given .0 .0) (body-judged (a .args .slice .now) (b .read-body .ensures) (v .judged .given .1)))
+    let a = b .before .before .before .before .before in
+    ((a .pre .0 .0, accepted-in-range _ (v .judged .given .0 .0) (body-judged (a .args .slice .now) (b .read-body .ensures) (v .judged .given .1))), a .pre .1 .0)
 
 put-reply-requires : tie.Need-put-reply-requires
-put-reply-requires c κs = search needs
+put-reply-requires c κs = c .before .before .before .before .before .before .before .before .before .before .before .before .before .before .before .before .before .before .before .before .before .before .before .pre .0 .1
 
 enum-known-judged-2 : tie.Need-enum-known-judged-2
 enum-known-judged-2 c = search needs
@@ -70,24 +70,27 @@ put-refused-requires c κs = search needs
 same-length : tie.Need-same-length
 same-length c = search needs
 
+same-length-2 : tie.Need-same-length-2
+same-length-2 c = search needs
+
 returns : tie.Need-returns
 returns c =
     let w = c .before .before in
-    let p = w .before .before in
-    let v = p .before .before .before .before .before .before .before .before .before .before .before .before in
+    let p = w .before .before .before .before in
+    let v = p .before .before .before .before .before .before .before .before .before .before .before .before .before in
     let b = v .before .before in
-    let a = b .before .before .before .before in
+    let a = b .before .before .before .before .before in
     asked-served (a .pre .0 .1) (body-judged (a .args .slice .now) (b .read-body .ensures) (v .judged .given .1)) (p .perform .ensures) (w .put-reply .ensures)
 
-same-length-2 : tie.Need-same-length-2
-same-length-2 c = search needs
+same-length-3 : tie.Need-same-length-3
+same-length-3 c = search needs
 
 returns-2 : tie.Need-returns-2
 returns-2 c =
     let w = c .before .before in
     let v = w .before .before .before in
     let b = v .before .before in
-    let a = b .before .before .before .before in
+    let a = b .before .before .before .before .before in
     let s = a .args .slice .now in
     let e = b .read-body .ensures in
     let g = v .judged2 .given .1 in
@@ -104,6 +107,7 @@ serve-body-spec =
     enum-known-judged-2
     put-refused-requires
     same-length
-    returns
     same-length-2
+    returns
+    same-length-3
     returns-2)

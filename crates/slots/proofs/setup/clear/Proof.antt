@@ -5,7 +5,7 @@ use Rattle.slots.proofs.setup.clear.Tie as tie
 
 returns : tie.Need-returns
 unfolding zeros
-returns c = refl
+returns c m = refl
 
 pub clear-spec : {M : Type 1} → statement M
 clear-spec = tie.close (tie.spec returns)

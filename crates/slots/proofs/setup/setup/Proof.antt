@@ -6,35 +6,34 @@ use borrow.Author.Needs.{needs}
 use borrow.Kind.Array.{eInt, good-length}
 use mir.Syntax.{w16}
 use lib.ListN.{getD}
-use Rattle.model.specs.Box.{setup}
-use Rattle.model.proofs.Setups.{accepted-small, accepted-stations, refused-stations}
+use Rattle.model.proofs.Setups.{accepted-small, accepted-stations, accepted-tables, refused-stations, refused-tables}
 use Rattle.slots.proofs.setup.setup.Statement.{statement}
 use Rattle.slots.proofs.setup.setup.Tie as tie
 
 -- where setup is accepted, a station fits a byte
-fits : (c : tie.Else1) (k : ℕ) → getD (c .before .before .before .before .before .before .before .before .before .before .before .before .before .args .t12) k 0 ≤ 99
-fits c k = accepted-small _ k (sym (c .before .judge-setup .ensures) ∙ c .if1 .left)
+fits : (c : tie.Else1) (k : ℕ) → getD (c .before .before .before .before .before .before .before .before .before .before .before .before .before .before .before .args .t13) k 0 ≤ 99
+fits c k = accepted-small _ _ k (sym (c .before .judge-setup .ensures) ∙ c .if1 .left)
 
 returns : tie.Need-returns
-unfolding setup
 returns c =
     let j = c .before .before in
     record {
       number-is = j .judge-setup .ensures;
-      stations-are = refused-stations _ (λ e. c .before .if1 .taken (j .judge-setup .ensures ∙ e));
-      tables-are = j .before .clear .ensures;
+      stations-are = refused-stations _ _ (λ e. c .before .if1 .taken (j .judge-setup .ensures ∙ e));
+      tables-are = j .before .before .clear .ensures _ ∙ refused-tables _ _ (λ e. c .before .if1 .taken (j .judge-setup .ensures ∙ e));
     }
 
 returns-2 : tie.Need-returns-2
-unfolding setup
 returns-2 c =
-    let j = c .before .before in
-    let s = j .before .before .before .before .before .before .before .before .before .before .before .before in
-    let e = sym (j .judge-setup .ensures) ∙ c .before .if1 .left in
+    let k = c .before .before .before in
+    let i = k .before .before in
+    let j = i .before in
+    let s = j .before .before .before .before .before .before .before .before .before .before .before .before .before .before in
+    let e = sym (j .judge-setup .ensures) ∙ i .if1 .left in
     record {
       number-is = sym e;
-      stations-are = accepted-stations (s .args .t12) (good-length (eInt w16) 4 (s .args .t12) _ (s .good .1 .1 .1 .1 .1 .1 .1 .1 .1 .1 .1 .0)) e;
-      tables-are = j .before .clear .ensures;
+      stations-are = accepted-stations (s .args .t13) _ (good-length (eInt w16) 4 (s .args .t13) _ (s .good .1 .1 .1 .1 .1 .1 .1 .1 .1 .1 .1 .1 .0)) e;
+      tables-are = j .before .before .clear .ensures _ ∙ accepted-tables _ _ _ e (k .clear2 .ensures);
     }
 
 pub setup-spec : {M : Type 1} → statement M
@@ -43,13 +42,16 @@ setup-spec =
     (tie.spec
     (λ c κs. search needs)
     (λ c κs. search needs)
+    (λ c. search needs)
     returns
+    (λ c κs. search needs)
     (λ c. search needs)
-    (λ c. omega (arith, fits c 0))
+    (λ c. omega (arith, fits (c .before .before .before .before) 0))
     (λ c. search needs)
-    (λ c. omega (arith, fits c 1))
+    (λ c. omega (arith, fits (c .before .before .before .before) 1))
     (λ c. search needs)
-    (λ c. omega (arith, fits c 2))
+    (λ c. omega (arith, fits (c .before .before .before .before) 2))
     (λ c. search needs)
-    (λ c. omega (arith, fits c 3))
+    (λ c. omega (arith, fits (c .before .before .before .before) 3))
+    (λ c. search needs)
     returns-2)

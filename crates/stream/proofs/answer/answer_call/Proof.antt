@@ -49,22 +49,25 @@ serve-requires : tie.Need-serve-requires
 serve-requires c κs = search needs
 
 array-share-prefix-reply : tie.Need-array-share-prefix-reply
-array-share-prefix-reply c = within refl (c .before .before .serve .ensures)
+array-share-prefix-reply c = within refl (c .before .before .before .before .serve .ensures)
 
 slice-aggregate-put-answer : tie.Need-slice-aggregate-put-answer
-slice-aggregate-put-answer c = sym (length-take-le _ _ (within refl (c .before .before .before .serve .ensures)))
+slice-aggregate-put-answer c = sym (length-take-le _ _ (within refl (c .before .before .before .before .before .serve .ensures)))
 
 put-answer-requires : tie.Need-put-answer-requires
 put-answer-requires c κs =
-    line-fits refl (c .before .before .before .serve .ensures) _ _ _ (omega arith)
+    line-fits refl (c .before .before .before .before .before .serve .ensures) _ _ _ (omega arith)
 
 same-length : tie.Need-same-length
 same-length c = search needs
 
+same-length-2 : tie.Need-same-length-2
+same-length-2 c = search needs
+
 returns : tie.Need-returns
 returns c =
     let p = c .before .before in
-    answered refl (p .before .before .before .before .serve .ensures) (p .put-answer .ensures)
+    answered refl (p .before .before .before .before .before .before .serve .ensures) (p .put-answer .ensures)
 
 pub answer-call-spec : {M : Type 1} → statement M
 answer-call-spec =
@@ -76,4 +79,5 @@ answer-call-spec =
     slice-aggregate-put-answer
     put-answer-requires
     same-length
+    same-length-2
     returns)

@@ -61,12 +61,12 @@ enum-known-what c = search needs
 
 array-share-prefix-slice : tie.Need-array-share-prefix-slice
 array-share-prefix-slice c =
-    let m = c .before .before .before .before .before .before .before .before .before .before .before in
+    let m = c .before .before .before .before .before .before .before .before .before .before .before .before in
     within _ _ refl (m .what .given .1) (m .before .before .read-line .ensures)
 
 slice-aggregate-answer-call : tie.Need-slice-aggregate-answer-call
 slice-aggregate-answer-call c =
-    let m = c .before .before .before .before .before .before .before .before .before .before .before .before in
+    let m = c .before .before .before .before .before .before .before .before .before .before .before .before .before in
     sym (length-take-le _ _ (within _ _ refl (m .what .given .1) (m .before .before .read-line .ensures)))
 
 answer-call-requires : tie.Need-answer-call-requires
@@ -81,13 +81,16 @@ put-no-call-requires c κs = search needs
 same-length : tie.Need-same-length
 same-length c = search needs
 
-returns : tie.Need-returns
-returns c =
-    let m = c .before .before .before .before .before .before .before .before .before .before .before .before .before .before .before .before in
-    call-answered _ _ refl (m .what .given .1) (m .before .before .read-line .ensures) (c .before .before .answer-call .ensures)
-
 same-length-2 : tie.Need-same-length-2
 same-length-2 c = search needs
+
+returns : tie.Need-returns
+returns c =
+    let m = c .before .before .before .before .before .before .before .before .before .before .before .before .before .before .before .before .before .before .before in
+    call-answered _ _ refl (m .what .given .1) (m .before .before .read-line .ensures) (c .before .before .before .before .answer-call .ensures)
+
+same-length-3 : tie.Need-same-length-3
+same-length-3 c = search needs
 
 returns-2 : tie.Need-returns-2
 returns-2 c =
@@ -106,6 +109,7 @@ answer-line-spec =
     enum-told
     put-no-call-requires
     same-length
-    returns
     same-length-2
+    returns
+    same-length-3
     returns-2)

@@ -12,11 +12,14 @@ answer-line-requires c κs = search needs
 same-length : tie.Need-same-length
 same-length c = search needs
 
+same-length-2 : tie.Need-same-length-2
+same-length-2 c = search needs
+
 returns : tie.Need-returns
 returns c =
-    let s = c .before .before .before .before .before .before .before .before .before .before .before .before .before .before .before .before .before in
-    let a = c .before .before .answer-line .ensures in
-    (line-ended (s .pre .0) (s .pre .1) (c .before .before .before .before .front .ensures) a, ended-within (s .pre .0) (s .pre .1) a)
+    let s = c .before .before .before .before .before .before .before .before .before .before .before .before .before .before .before .before .before .before .before .before .before in
+    let a = c .before .before .before .before .answer-line .ensures in
+    (line-ended (s .pre .0) (s .pre .1) (c .before .before .before .before .before .before .front .ensures) a, ended-within (s .pre .0) (s .pre .1) a)
 
 pub end-line-spec : {M : Type 1} → statement M
-end-line-spec = tie.close (tie.spec front-requires answer-line-requires same-length returns)
+end-line-spec = tie.close (tie.spec front-requires answer-line-requires same-length same-length-2 returns)
