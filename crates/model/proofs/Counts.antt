@@ -83,6 +83,7 @@ stored-tally t k (store.Output g v) l e h y =
 stored-tally t k (store.OutputPort p v) l e h y = let w = store-within {q = store.OutputPort p v} refl e in output-tally t k (p .0) (natAbs v) h l (w .0) (w .1 .size) y
 stored-tally t k (store.MemoryBit g v) l e h y = y
 stored-tally t k (store.MemoryPort p v) l e h y = y
+stored-tally t k (store.Step n s) l e h y = y
 
 performed-tally : (t : Tables) (b : Bool) (d : Decision) → Sound b d → ((k : ℕ) → concerns d ≡ at k → k < 4) → Shaped t
     → Tally (t .outputs) (t .on) → Tally (performTables t d .outputs) (performTables t d .on)

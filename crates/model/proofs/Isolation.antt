@@ -5,7 +5,7 @@ use mathlib.Core.Bool.{Bool, true, false, cond}
 use mathlib.Core.List.{List, [], _∷_}
 use lib.ListN.{length, getD, getD-replicate}
 use Rattle.programs.specs.Memory.{size, part, program}
-use Rattle.programs.proofs.Steps.{cleared-empty}
+use Rattle.programs.proofs.Programs.{cleared-empty}
 use Rattle.tables.specs.Tables.{Tables, withPrograms, zeros}
 use Rattle.model.specs.Call.{Call}
 use Rattle.model.specs.Box.{Box, box, setup, Slot, nowhere, at, Decision, unanswered, refused, accepted, inputSet, countAsked, decideOn, performTables, perform, respond, after, answer, run}
@@ -16,6 +16,8 @@ use Rattle.model.specs.Counts.{AlwaysCounted}
 use Rattle.model.specs.Demand3.{Isolated, Demand3}
 use Rattle.model.proofs.Laws.{false-true}
 use Rattle.model.proofs.Slots.{Apart, setup-apart, nowhere-at, concerns, concerned, decided}
+use Rattle.model.specs.Ranges.{bringsByte}
+use Rattle.model.proofs.Ranges.{sound}
 use Rattle.model.proofs.Arms.{other, same}
 use Rattle.model.proofs.Programs.{after-length, fitted-cleared, fitted-size, other-part}
 use Rattle.model.proofs.Counts.{Tallied, after-tallied, setup-tallied, true-count}
@@ -29,27 +31,27 @@ after-stations b c = refl
 module _ (b : Box) (k : ℕ) (c : Call) where
   after-other : isFor k (b .stations) c ≡ false → armOf k (after b c) ≡ armOf k b
   unfolding after
-  after-other e = other b k (decideOn b c) (λ w. false-true (sym e ∙ concerned (b .stations) k _ c w .addressed))
+  after-other e = other b k (bringsByte c) (decideOn b c) (sound (b .stations) _ c) (λ w. false-true (sym e ∙ concerned (b .stations) k _ c w .addressed))
 
   after-unfitted : getD (b .stations) k 0 ≡ 0 → armOf k (after b c) ≡ armOf k b
   unfolding after
-  after-unfitted z = other b k (decideOn b c) (λ w. concerned (b .stations) k _ c w .fitted .1 z)
+  after-unfitted z = other b k (bringsByte c) (decideOn b c) (sound (b .stations) _ c) (λ w. concerned (b .stations) k _ c w .fitted .1 z)
 
   -- the same of the bytes of its part
   part-other : isFor k (b .stations) c ≡ false → part k (after b c .tables .programs) ≡ part k (b .tables .programs)
   unfolding after
-  part-other e = other-part b k (decideOn b c) (λ w. false-true (sym e ∙ concerned (b .stations) k _ c w .addressed))
+  part-other e = other-part b k (bringsByte c) (decideOn b c) (sound (b .stations) _ c) (λ w. false-true (sym e ∙ concerned (b .stations) k _ c w .addressed))
 
   part-unfitted : getD (b .stations) k 0 ≡ 0 → part k (after b c .tables .programs) ≡ part k (b .tables .programs)
   unfolding after
-  part-unfitted z = other-part b k (decideOn b c) (λ w. concerned (b .stations) k _ c w .fitted .1 z)
+  part-unfitted z = other-part b k (bringsByte c) (decideOn b c) (sound (b .stations) _ c) (λ w. concerned (b .stations) k _ c w .fitted .1 z)
 
   pub after-same : length (b .tables .programs) ≡ size → Apart (b .stations) → Fitted k (b .stations) → Tallied (b .tables) → isFor k (b .stations) c ≡ true
       → (armOf k (after b c) ≡ step (getD (b .stations) k 0) (armOf k b) (eventOf c) .arm)
       × (answer b c ≡ step (getD (b .stations) k 0) (armOf k b) (eventOf c) .answer)
   unfolding after answer
   after-same z g f h e =
-      let w = same b k h (f .0) c in
+      let w = same b k z h (f .0) c in
       rw (decided (b .stations) _ k c z g f e) (w .arm, w .answer)
 
 -- ---- a list of calls

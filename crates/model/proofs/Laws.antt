@@ -14,10 +14,13 @@ use lib.Signed.{ltZ}
 use Rattle.frame.specs.Frame.{Reading, readFrame, framePosition, frameOf}
 use Rattle.commands.specs.declared.table.Kind.{Kind}
 use Rattle.commands.specs.declared.table.Kind.the-variants as kind
+use Rattle.commands.specs.declared.table.Form.the-variants.{Numbers}
 use Rattle.commands.specs.declared.table.Rule.{Rule}
 use Rattle.commands.specs.declared.request.Row.{Row}
+use Rattle.commands.specs.declared.request.Payload.the-variants as payload
 use Rattle.commands.specs.declared.request.Request.{Request}
-use Rattle.commands.specs.Request.{one}
+use Rattle.commands.specs.Table.{loads, stores}
+use Rattle.commands.specs.Request.{one, partsOf}
 use Rattle.bodies.specs.declared.body.Judged.{Judged}
 use Rattle.bodies.specs.declared.body.Judged.the-variants as judged
 use Rattle.replies.specs.declared.reply.Data.{Data}
@@ -26,7 +29,7 @@ use Rattle.replies.specs.declared.reply.Outcome.the-variants as outcome
 use Rattle.numbers.specs.Ranges.{limitsOf, inRange, eachInRange, allInRange}
 use Rattle.data.specs.Ranges.{judge}
 use Rattle.bodies.specs.Body.{readBody}
-use Rattle.replies.specs.Reply.{contentOf, codeOf, dataFit, judgeOutcome, outcomeText}
+use Rattle.replies.specs.Reply.{contentOf, codeOf, contentFits, judgeOutcome, outcomeText}
 use Rattle.harl.specs.Message.{ruleFor, judgeAsked, theRequest, noRequest, fromStation, requestIn, readRequest, writeRequest, judgeReply, writeReply, theOutcome, readReply}
 use Rattle.numbers.proofs.Bounds.{in-nat, head-in, tail-in, all-x, one-in}
 use Rattle.data.proofs.Bounds.{passed}
@@ -118,9 +121,9 @@ row-out r h =
 pub bit-in : (n : ℕ) → allInRange kind.Signal (one (pos (n % 2))) ≡ true
 bit-in n = one-in kind.Signal (pos (n % 2)) (signal-in (n % 2) (omega arith))
 
--- the first value of a request that passes checks 11 and 12
-pub data-in : (rule : Rule) (n : ℕ) (r : Row) → judge rule n r ≡ 0 → inRange (rule .kind) (r .x) ≡ true
-data-in rule n r e = all-x (rule .kind) r (passed rule n r e .values)
+-- the value of an SN that passes checks 11 and 12
+pub data-in : (k : Kind) (first last n : ℕ) (v : ℤ) → judge (stores (loads (Numbers k) first last)) n (payload.Numbers (one v)) ≡ 0 → inRange k v ≡ true
+data-in k first last n v e = all-x k (one v) (passed (stores (loads (Numbers k) first last)) n (payload.Numbers (one v)) e .payload)
 
 -- ---- requests and replies as they are written
 
@@ -159,12 +162,12 @@ module _ (area s : ℕ) (r : Request) (e : writeRequest area s r .number ≡ 0) 
   written-in = check-passed (ltb area 64) 1 (judgeAsked s r) (omega arith) e .1
 
 -- data that fit a command can be written
-pub fitting-in : (rule : Rule) (d : Data) → Fitting rule (contentOf d) → judgeOutcome rule (outcome.Data d) ≡ 0
-unfolding judgeOutcome dataFit
-fitting-in rule d f = rw (f .loads, f .kind, eq-eqb (codeOf (rule .kind)) _ refl, f .range)
+pub fitting-in : (rule : Rule) (asked : ℕ) (d : Data) → Fitting rule asked (contentOf d) → judgeOutcome rule asked (outcome.Data d) ≡ 0
+unfolding judgeOutcome contentFits
+fitting-in rule asked d f = rw (f .loads, f .form, eq-eqb (codeOf (rule .form)) _ refl, f .number, f .range)
 
 -- the frame of an outcome that can be written reads as that outcome
-pub outcome-back : (s : ℕ) (r : Request) (o : Outcome) → judgeAsked s r ≡ 0 → judgeOutcome (ruleFor r) o ≡ 0
+pub outcome-back : (s : ℕ) (r : Request) (o : Outcome) → judgeAsked s r ≡ 0 → judgeOutcome (ruleFor r) (partsOf r .number) o ≡ 0
     → readReply (frameOf s (outcomeText (ruleFor r .store) o)) s r ≡ theOutcome o
 unfolding judgeReply writeReply
 outcome-back s r o p q = let e : judgeReply 64 s r o ≡ 0 = rw (p, q) in rw e at (replies-read-back 64 s r o e)

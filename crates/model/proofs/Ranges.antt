@@ -12,6 +12,7 @@ use Rattle.frame.specs.Frame.{readFrame}
 use Rattle.names.specs.declared.command.Command.the-variants.{Snl}
 use Rattle.commands.specs.declared.table.Kind.{Kind}
 use Rattle.commands.specs.declared.table.Kind.the-variants as kind
+use Rattle.commands.specs.declared.request.Payload.the-variants as payload
 use Rattle.commands.specs.declared.request.Store.{Store}
 use Rattle.commands.specs.declared.request.Store.the-variants as store
 use Rattle.commands.specs.declared.request.Request.the-variants as request
@@ -58,15 +59,16 @@ set-offset = every-set Offset (pos 0)
 -- an SN that is accepted
 stored-in : (t : Tables) (k : ℕ) (q : Store) → StoreInRange q → InRange t → InRange (stored k q t)
 unfolding stored
-stored-in t k (store.Timer n v) e h = search (set-natural, natural-in kind.Timer v refl (data-in _ _ _ e))
-stored-in t k (store.Register n v) e h = search (set-natural, natural-in kind.Register v refl (data-in _ _ _ e))
-stored-in t k (store.Row n r) e h = search (set-offset, row-out r (passed (ruleOf Snl) n r e .values))
+stored-in t k (store.Timer n v) e h = search (set-natural, natural-in kind.Timer v refl (data-in kind.Timer _ _ _ v e))
+stored-in t k (store.Register n v) e h = search (set-natural, natural-in kind.Register v refl (data-in kind.Register _ _ _ v e))
+stored-in t k (store.Row n r) e h = search (set-offset, row-out r (passed (ruleOf Snl) n (payload.Numbers r) e .payload))
 stored-in t k (store.Output g v) e h =
-    search (set-natural, with-bit-in _ (g .0 - 0) v (h .outputs k ((g .0 - 0) / 8)) (data-in _ _ _ e))
-stored-in t k (store.OutputPort p v) e h = search (set-natural, natural-in kind.Port v refl (data-in _ _ _ e))
+    search (set-natural, with-bit-in _ (g .0 - 0) v (h .outputs k ((g .0 - 0) / 8)) (data-in kind.Signal _ _ _ v e))
+stored-in t k (store.OutputPort p v) e h = search (set-natural, natural-in kind.Port v refl (data-in kind.Port _ _ _ v e))
 stored-in t k (store.MemoryBit g v) e h =
-    search (set-natural, with-bit-in _ (g .0 - 256) v (h .memory k ((g .0 - 256) / 8)) (data-in _ _ _ e))
-stored-in t k (store.MemoryPort p v) e h = search (set-natural, natural-in kind.Port v refl (data-in _ _ _ e))
+    search (set-natural, with-bit-in _ (g .0 - 256) v (h .memory k ((g .0 - 256) / 8)) (data-in kind.Signal _ _ _ v e))
+stored-in t k (store.MemoryPort p v) e h = search (set-natural, natural-in kind.Port v refl (data-in kind.Port _ _ _ v e))
+stored-in t k (store.Step n s) e h = search set-natural
 
 -- ---- what is decided of a call
 

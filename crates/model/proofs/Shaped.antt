@@ -37,6 +37,7 @@ shaped-stored t k (store.Output g v) h = search (rows-set, length-set)
 shaped-stored t k (store.OutputPort p v) h = search (rows-set, length-set)
 shaped-stored t k (store.MemoryBit g v) h = search rows-set
 shaped-stored t k (store.MemoryPort p v) h = search rows-set
+shaped-stored t k (store.Step n s) h = search rows-set
 
 shaped-performed : (t : Tables) (d : Decision) → Shaped t → Shaped (performTables t d)
 shaped-performed t (unanswered n p) h = h

@@ -14,31 +14,41 @@ use lib.IntN.{ℤ, pos, natAbs}
 use Rattle.frame.specs.Frame.{readFrame}
 use Rattle.commands.specs.declared.table.Kind.{Kind}
 use Rattle.commands.specs.declared.table.Kind.the-variants as kind
-use Rattle.commands.specs.declared.table.Rule.{Rule}
+use Rattle.commands.specs.declared.table.Form.{Form}
+use Rattle.commands.specs.declared.table.Form.the-variants.{Numbers, Texts}
 use Rattle.commands.specs.declared.request.Row.{Row}
+use Rattle.commands.specs.declared.request.Payload.{Payload}
+use Rattle.commands.specs.declared.request.Payload.the-variants as payload
 use Rattle.commands.specs.declared.request.Load.{Load}
 use Rattle.commands.specs.declared.request.Load.the-variants as load
 use Rattle.commands.specs.declared.request.Store.{Store}
 use Rattle.commands.specs.declared.request.Store.the-variants as store
 use Rattle.commands.specs.declared.request.Request.{Request}
 use Rattle.commands.specs.declared.request.Request.the-variants as request
+use Rattle.commands.specs.Table.{loads}
 use Rattle.commands.specs.Request.{one, port, signal, partsOf}
 use Rattle.replies.specs.declared.reply.Data.the-variants as held
 use Rattle.numbers.specs.Ranges.{limitsOf, allInRange}
 use Rattle.data.specs.Ranges.{judge}
 use Rattle.bodies.specs.Body.{readBody}
-use Rattle.replies.specs.Reply.{dataOf}
-use Rattle.harl.specs.Message.{ruleFor, judgeRequest, judgeAsked, readRequest, writeRequest, noOutcome, readReply}
+use Rattle.replies.specs.declared.reply.Outcome.{Outcome}
+use Rattle.replies.specs.declared.reply.Outcome.the-variants as outcome
+use Rattle.replies.specs.Reply.{numbersOf, stepOutcome}
+use Rattle.steps.specs.declared.step.Step.{Step}
+use Rattle.steps.specs.Step.{isStep, textsOf}
+use Rattle.steps.proofs.Back.{texts-back}
+use Rattle.harl.specs.Message.{ruleFor, judgeRequest, judgeAsked, readRequest, writeRequest, theOutcome, noOutcome, readReply}
 use Rattle.ports.specs.Bits.{bit, withBit}
 use Rattle.tables.specs.Tables.{PerField, eachField, eachWith, EachField, asRow, withInputs, set2, LoadInRange, StoreInRange}
 use Rattle.ports.proofs.Bits.{bit-same, bit-other}
 use Rattle.tables.proofs.Ranges.{readable}
-use Rattle.numbers.proofs.Bounds.{in-size, in-nat, all-x, zero-in}
+use Rattle.numbers.proofs.Bounds.{in-size, in-nat, all-x}
 use Rattle.data.proofs.Bounds.{passed, judged}
 use Rattle.harl.proofs.Accepted.{accepted-in-range}
 use Rattle.harl.proofs.Requests.{requests-read-back, asked-ok}
 use Rattle.model.specs.Call.{serve, input}
 use Rattle.programs.specs.Memory.{size}
+use Rattle.programs.proofs.Programs.{program-length}
 use Rattle.model.specs.Setup.{setupRefusal}
 use Rattle.model.specs.Box.{Box, setup, at, decideOn, after, run}
 use Rattle.model.specs.Lone.{Arm, holds, replaced, step}
@@ -52,7 +62,7 @@ use Rattle.model.proofs.Setups.{accepted-small}
 use Rattle.model.proofs.Programs.{after-length}
 use Rattle.model.proofs.Counts.{Tallied, after-tallied}
 use Rattle.model.proofs.Isolation.{after-stations, after-same, run-stations, run-size, always-tallied}
-use Rattle.model.proofs.Ranges.{after-in, always-in-range}
+use Rattle.model.proofs.Ranges.{sound, after-in, always-in-range}
 use Rattle.model.proofs.EndToEnd.{exchanged}
 
 -- ---- lists
@@ -127,6 +137,25 @@ module _ (n : ℕ) (c : PerField (List ℤ)) (h : EachField (λ t. length t ≡ 
 
 -- ---- cells
 
+-- a row, in which a number stands as x, or the texts of a step
+data Cell : Type 0 where
+  row : Row → Cell
+  texts : List (List ℕ) → Cell
+
+-- the row and the texts of a cell, zeros and none in one of the other form
+abbrev rowOf : Cell → Row
+rowOf (row r) = r
+rowOf (texts ts) = one (pos 0)
+
+abbrev textsIn : Cell → List (List ℕ)
+textsIn (row r) = []
+textsIn (texts ts) = ts
+
+-- a natural number in a cell
+abbrev nat : ℕ → Cell
+nat n = row (one (pos n))
+
+
 -- a cell's place: its bank, and its number there
 record Place : Type 0 where
   bank : ℕ
@@ -136,14 +165,14 @@ abbrev place : ℕ → ℕ → Place
 place c i = record { bank = c; index = i }
 
 -- what stands there; a number past the end reads as 0
-abbrev cell : List (List Row) → Place → Row
-cell t p = getD (getD t (p .bank) []) (p .index) (one (pos 0))
+abbrev cell : List (List Cell) → Place → Cell
+cell t p = getD (getD t (p .bank) []) (p .index) (nat 0)
 
 -- the bank has that number
-abbrev Within : List (List Row) → Place → Type 0
+abbrev Within : List (List Cell) → Place → Type 0
 Within t p = p .index < length (getD t (p .bank) [])
 
-module _ (t : List (List Row)) (p : Place) (v : Row) (h : Within t p) where
+module _ (t : List (List Cell)) (p : Place) (v : Cell) (h : Within t p) where
   row-set : getD (set2 t (p .bank) (p .index) v) (p .bank) [] ≡ set (getD t (p .bank) []) (p .index) v
   row-set = getD-set-same t (p .bank) _ [] (row-within t (p .bank) (p .index) h)
 
@@ -156,56 +185,56 @@ module _ (t : List (List Row)) (p : Place) (v : Row) (h : Within t p) where
   cell-other q ne = go (ℕ-discrete (q .bank) (p .bank)) (ℕ-discrete (q .index) (p .index))
     where
       go : Dec (q .bank ≡ p .bank) → Dec (q .index ≡ p .index) → cell (set2 t (p .bank) (p .index) v) q ≡ cell t q
-      go (no n) d = ap (λ r. getD r (q .index) (one (pos 0))) (getD-set-other t (p .bank) (q .bank) _ [] n)
+      go (no n) d = ap (λ r. getD r (q .index) (nat 0)) (getD-set-other t (p .bank) (q .bank) _ [] n)
       go (yes e) (no n) = rw (e, row-set) (getD-set-other (getD t (p .bank) []) (p .index) (q .index) v _ n)
       go (yes e) (yes f) = absurd (ne (ap₂ place (sym e) (sym f)))
 
 -- ---- parts of cells
 
--- a natural number in a cell
-abbrev nat : ℕ → Row
-nat n = one (pos n)
+-- the natural number of a cell
+abbrev size-of : Cell → ℕ
+size-of c = natAbs (rowOf c .x)
 
 -- what a part shows of a cell
-abbrev seen : View → Row → Row
-seen entire r = r
-seen (bitAt n) r = nat (bit (natAbs (r .x)) n)
+abbrev seen : View → Cell → Cell
+seen entire c = c
+seen (bitAt n) c = nat (bit (size-of c) n)
 
 -- the cell with v for that part
-abbrev merged : View → Row → Row → Row
-merged entire r v = v
-merged (bitAt n) r v = nat (withBit (natAbs (r .x)) n (natAbs (v .x)))
+abbrev merged : View → Cell → Cell → Cell
+merged entire c v = v
+merged (bitAt n) c v = nat (withBit (size-of c) n (size-of v))
 
 -- a bit is a bit of a byte
-abbrev Bitwise : View → Row → Type 0
-Bitwise entire r = Unit
-Bitwise (bitAt n) r = (n < 8) × (natAbs (r .x) < 256)
+abbrev Bitwise : View → Cell → Type 0
+Bitwise entire c = Unit
+Bitwise (bitAt n) c = (n < 8) × (size-of c < 256)
 
 -- and what is stored there is 0 or 1
-abbrev Binary : View → Row → Type 0
+abbrev Binary : View → Cell → Type 0
 Binary entire v = Unit
-Binary (bitAt n) v = (natAbs (v .x) < 2) × (v ≡ nat (natAbs (v .x)))
+Binary (bitAt n) v = (size-of v < 2) × (v ≡ nat (size-of v))
 
 -- a part that is stored is seen
-seen-same : (p : View) (r v : Row) → Bitwise p r → Binary p v → seen p (merged p r v) ≡ v
-seen-same entire r v b d = refl
-seen-same (bitAt n) r v b d = ap nat (bit-same (natAbs (r .x)) n (natAbs (v .x)) (b .1) (b .0) (d .0)) ∙ sym (d .1)
+seen-same : (p : View) (c v : Cell) → Bitwise p c → Binary p v → seen p (merged p c v) ≡ v
+seen-same entire c v b d = refl
+seen-same (bitAt n) c v b d = ap nat (bit-same (size-of c) n (size-of v) (b .1) (b .0) (d .0)) ∙ sym (d .1)
 
 -- another bit is seen as before
-seen-other : (n m : ℕ) (r v : Row) → Bitwise (bitAt n) r → Binary (bitAt n) v → m < 8 → (m ≡ n → ⊥)
-    → seen (bitAt m) (merged (bitAt n) r v) ≡ seen (bitAt m) r
-seen-other n m r v b d l ne = ap nat (bit-other (natAbs (r .x)) n (natAbs (v .x)) m (b .1) (b .0) (d .0) l ne)
+seen-other : (n m : ℕ) (c v : Cell) → Bitwise (bitAt n) c → Binary (bitAt n) v → m < 8 → (m ≡ n → ⊥)
+    → seen (bitAt m) (merged (bitAt n) c v) ≡ seen (bitAt m) c
+seen-other n m c v b d l ne = ap nat (bit-other (size-of c) n (size-of v) m (b .1) (b .0) (d .0) l ne)
 
 -- ---- an arm as banks of cells
 
-abbrev banks : Arm → List (List Row)
+abbrev banks : Arm → List (List Cell)
 banks a =
     map nat (a .inputs) ∷ map nat (a .outputs) ∷ map nat (a .memory) ∷
-    map nat (a .timers) ∷ map nat (a .registers) ∷ rowsFrom (a .rows) ∷ []
+    map nat (a .timers) ∷ map nat (a .registers) ∷ map row (rowsFrom (a .rows)) ∷ map texts (a .programs) ∷ []
 
 -- the length of each
 abbrev lengths : List ℕ
-lengths = 32 ∷ 32 ∷ 16 ∷ 16 ∷ 64 ∷ 100 ∷ []
+lengths = 32 ∷ 32 ∷ 16 ∷ 16 ∷ 64 ∷ 100 ∷ 256 ∷ []
 
 -- the cell of an item
 abbrev placed : Load → Place
@@ -218,12 +247,13 @@ placed (load.Output g) = place 1 (g .0 / 8)
 placed (load.OutputPort p) = place 1 (p .0)
 placed (load.MemoryBit g) = place 2 ((g .0 - 256) / 8)
 placed (load.MemoryPort p) = place 2 (p .0)
+placed (load.Step n) = place 6 n
 
 -- the item that a cell is, for each bank
 abbrev cellItems : List (ℕ → Load)
 cellItems =
     (λ n. load.InputPort (port n)) ∷ (λ n. load.OutputPort (port n)) ∷ (λ n. load.MemoryPort (port n)) ∷
-    load.Timer ∷ load.Register ∷ load.Row ∷ []
+    load.Timer ∷ load.Register ∷ load.Row ∷ load.Step ∷ []
 
 -- and its signals, by their number in the bank
 abbrev bitItems : List (ℕ → Load)
@@ -234,9 +264,13 @@ abbrev itemAt : Place → View → Load
 itemAt p entire = getD cellItems (p .bank) load.Timer (p .index)
 itemAt p (bitAt n) = getD bitItems (p .bank) load.Timer (p .index * 8 + n)
 
--- the kind of its data
-abbrev kindOf : Load → Kind
-kindOf l = ruleFor (request.Load l) .kind
+-- what is answered of a cell, by the form of an item and its number
+abbrev outcomeIn : Form → ℕ → Cell → Outcome
+outcomeIn (Numbers k) n c = outcome.Data (numbersOf k (rowOf c))
+outcomeIn Texts n c = stepOutcome n (textsIn c)
+
+abbrev answerFor : Load → Cell → Outcome
+answerFor l = outcomeIn (ruleFor (request.Load l) .form) (partsOf (request.Load l) .number)
 
 -- what is known of an arm's tables: their lengths, and that ports are bytes
 record Sized (a : Arm) : Type 0 where
@@ -245,25 +279,34 @@ record Sized (a : Arm) : Type 0 where
   inputs : (n : ℕ) → getD (a .inputs) n 0 < 256
   outputs : (n : ℕ) → getD (a .outputs) n 0 < 256
   memory : (n : ℕ) → getD (a .memory) n 0 < 256
+  steps : length (a .programs) ≡ 256
 
 -- ---- each item is a part of a cell
 
 record Located (a : Arm) (l : Load) : Type 0 where
   -- an LN answers it
-  answers : holds a l ≡ dataOf (kindOf l) (seen (viewOf l) (cell (banks a) (placed l)))
+  answers : holds a l ≡ answerFor l (seen (viewOf l) (cell (banks a) (placed l)))
   -- no other item is that part, and its port is the cell
   item : itemAt (placed l) (viewOf l) ≡ l
   port : itemAt (placed l) entire ≡ portOf l
   bits : Bitwise (viewOf l) (cell (banks a) (placed l))
 
-nat-at : (l : List ℕ) (i : ℕ) → getD (map nat l) i (one (pos 0)) ≡ nat (getD l i 0)
+nat-at : (l : List ℕ) (i : ℕ) → getD (map nat l) i (nat 0) ≡ nat (getD l i 0)
 nat-at l i = List·getD-map nat l i 0
+
+row-at : (l : List Row) (i : ℕ) → getD (map row l) i (nat 0) ≡ row (getD l i (one (pos 0)))
+row-at l i = List·getD-map row l i (one (pos 0))
+
+texts-at : (l : List (List (List ℕ))) (i : ℕ) → i < length l → getD (map texts l) i (nat 0) ≡ texts (getD l i [])
+texts-at [] i h = absurd (omega arith)
+texts-at (t ∷ l) zero h = refl
+texts-at (t ∷ l) (suc i) h = texts-at l i (omega arith)
 
 located : (a : Arm) → Sized a → (l : Load) → LoadInRange l → Located a l
 unfolding holds
 located a h (load.Timer n) z = record { answers = rw nat-at; item = refl; port = refl; bits = tt }
 located a h (load.Register n) z = record { answers = rw nat-at; item = refl; port = refl; bits = tt }
-located a h (load.Row n) z = record { answers = rw (rows-at 100 (a .rows) (h .columns) n); item = refl; port = refl; bits = tt }
+located a h (load.Row n) z = record { answers = rw (row-at (rowsFrom (a .rows)) n, rows-at 100 (a .rows) (h .columns) n); item = refl; port = refl; bits = tt }
 located a h (load.Input g) z =
     let e : g .0 / 8 * 8 + g .0 % 8 ≡ g .0 = omega arith in
     record { answers = rw nat-at; item = rw e; port = refl; bits = rw nat-at (omega arith, h .inputs (g .0 / 8)) }
@@ -276,6 +319,8 @@ located a h (load.MemoryBit g) z =
     let e : (g .0 - 256) / 8 * 8 + (g .0 - 256) % 8 + 256 ≡ g .0 = omega (arith, passed _ _ _ z .low) in
     record { answers = rw nat-at; item = rw e; port = refl; bits = rw nat-at (omega arith, h .memory ((g .0 - 256) / 8)) }
 located a h (load.MemoryPort p) z = record { answers = rw nat-at; item = refl; port = refl; bits = tt }
+located a h (load.Step n) z =
+    record { answers = rw (texts-at (a .programs) n (omega (arith, h .steps, passed _ _ _ z .high))); item = refl; port = refl; bits = tt }
 
 -- ---- each write sets a part of a cell
 
@@ -285,8 +330,13 @@ armWith a (sn slice room q) = replaced a q
 armWith a (wired p v) = withInputs a (set (a .inputs) p v)
 
 -- what is written, as a cell
-abbrev brought : Write → Row
-brought (sn slice room q) = partsOf (request.Store q) .values
+abbrev cellOf : Payload → Cell
+cellOf payload.None = nat 0
+cellOf (payload.Numbers r) = row r
+cellOf (payload.Texts s) = texts (textsOf s)
+
+abbrev brought : Write → Cell
+brought (sn slice room q) = cellOf (partsOf (request.Store q) .payload)
 brought (wired p v) = nat v
 
 -- it is in range
@@ -295,16 +345,16 @@ Ranged (sn slice room q) = StoreInRange q
 Ranged (wired p v) = p ≤ 31
 
 -- an LN whose number is in its range
-number-ranged : (rule : Rule) (n : ℕ) → rule .first ≤ n → n ≤ rule .last → judge rule n (one (pos 0)) ≡ 0
-number-ranged rule n l h = judged rule n (pos 0) l h (zero-in (rule .kind))
+number-ranged : (f : Form) (first last n : ℕ) → first ≤ n → n ≤ last → judge (loads f first last) n payload.None ≡ 0
+number-ranged f first last n l h = judged (loads f first last) n payload.None l h refl
 
 -- the LN of its item is in range
 item-ranged : (w : Write) → Ranged w → LoadInRange (itemOf w)
 item-ranged (sn slice room q) e = readable q e
-item-ranged (wired p v) e = number-ranged _ p (omega arith) e
+item-ranged (wired p v) e = number-ranged _ _ _ p (omega arith) e
 
 -- the cells with it
-abbrev cellsWith : Arm → Write → List (List Row)
+abbrev cellsWith : Arm → Write → List (List Cell)
 cellsWith a w =
     let p = placed (itemOf w) in
     set2 (banks a) (p .bank) (p .index) (merged (viewOf (itemOf w)) (cell (banks a) p) (brought w))
@@ -313,7 +363,7 @@ record Written (a : Arm) (w : Write) : Type 0 where
   -- the cell of its item is set, and no other
   cells : banks (armWith a w) ≡ cellsWith a w
   -- it is the data given
-  given : dataOf (kindOf (itemOf w)) (brought w) ≡ givenBy w
+  given : answerFor (itemOf w) (brought w) ≡ outcome.Data (givenBy w)
   -- that cell is there
   within : Within (banks a) (placed (itemOf w))
   binary : Binary (viewOf (itemOf w)) (brought w)
@@ -325,19 +375,24 @@ in-bank a h c i l =
     omega arith
 
 -- a value whose range starts at 0
-natural : (c : Kind) (v : ℤ) → limitsOf c .low ≡ pos 0 → allInRange c (one v) ≡ true → nat (natAbs v) ≡ one v
-natural c v low h = ap one (sym (in-nat c v low (all-x c (one v) h)))
+natural : (c : Kind) (v : ℤ) → limitsOf c .low ≡ pos 0 → allInRange c (one v) ≡ true → nat (natAbs v) ≡ row (one v)
+natural c v low h = ap (λ z. row (one z)) (sym (in-nat c v low (all-x c (one v) h)))
 
 -- a value of a signal
-binary-in : (v : ℤ) → allInRange kind.Signal (one v) ≡ true → (natAbs v < 2) × (one v ≡ nat (natAbs v))
+binary-in : (v : ℤ) → allInRange kind.Signal (one v) ≡ true → (natAbs v < 2) × (row (one v) ≡ nat (natAbs v))
 binary-in v h = (omega (arith, in-size kind.Signal v (all-x kind.Signal (one v) h)), sym (natural kind.Signal v refl h))
+
+-- a step is told by its texts
+step-given : (n : ℕ) (s : Step) → isStep s ≡ true → stepOutcome n (textsOf s) ≡ outcome.Data (held.Step n s)
+unfolding textsOf
+step-given n s e = ap (λ t. outcome.Data (held.Step n t)) (texts-back s e)
 
 written : (a : Arm) → Sized a → (w : Write) → Ranged w → Written a w
 unfolding replaced
 written a h (sn slice room (store.Timer n v)) e =
     let p = passed _ _ _ e in
     record {
-      cells = rw (map-set, natural kind.Timer v refl (p .values));
+      cells = rw (map-set, natural kind.Timer v refl (p .payload));
       given = refl;
       within = in-bank a h 3 n (omega (arith, p .high));
       binary = tt;
@@ -345,26 +400,26 @@ written a h (sn slice room (store.Timer n v)) e =
 written a h (sn slice room (store.Register n v)) e =
     let p = passed _ _ _ e in
     record {
-      cells = rw (map-set, natural kind.Register v refl (p .values));
+      cells = rw (map-set, natural kind.Register v refl (p .payload));
       given = refl;
       within = in-bank a h 4 n (omega (arith, p .high));
       binary = tt;
     }
 written a h (sn slice room (store.Row n r)) e =
     let p = passed _ _ _ e in
-    record { cells = rw (rows-set (a .rows) n r); given = refl; within = in-bank a h 5 n (omega (arith, p .high)); binary = tt }
+    record { cells = rw (rows-set (a .rows) n r, map-set row (rowsFrom (a .rows)) n r); given = refl; within = in-bank a h 5 n (omega (arith, p .high)); binary = tt }
 written a h (sn slice room (store.Output g v)) e =
     let p = passed _ _ _ e in
     record {
       cells = rw (map-set, nat-at);
       given = refl;
       within = in-bank a h 1 (g .0 / 8) (omega (arith, p .high));
-      binary = binary-in v (p .values);
+      binary = binary-in v (p .payload);
     }
 written a h (sn slice room (store.OutputPort n v)) e =
     let p = passed _ _ _ e in
     record {
-      cells = rw (map-set, natural kind.Port v refl (p .values));
+      cells = rw (map-set, natural kind.Port v refl (p .payload));
       given = refl;
       within = in-bank a h 1 (n .0) (omega (arith, p .high));
       binary = tt;
@@ -375,14 +430,22 @@ written a h (sn slice room (store.MemoryBit g v)) e =
       cells = rw (map-set, nat-at);
       given = refl;
       within = in-bank a h 2 ((g .0 - 256) / 8) (omega (arith, p .high, p .low));
-      binary = binary-in v (p .values);
+      binary = binary-in v (p .payload);
     }
 written a h (sn slice room (store.MemoryPort n v)) e =
     let p = passed _ _ _ e in
     record {
-      cells = rw (map-set, natural kind.Port v refl (p .values));
+      cells = rw (map-set, natural kind.Port v refl (p .payload));
       given = refl;
       within = in-bank a h 2 (n .0) (omega (arith, p .high));
+      binary = tt;
+    }
+written a h (sn slice room (store.Step n s)) e =
+    let p = passed _ _ _ e in
+    record {
+      cells = rw (map-set texts (a .programs) n (textsOf s));
+      given = step-given n s (p .payload);
+      within = in-bank a h 6 n (omega (arith, p .high));
       binary = tt;
     }
 written a h (wired n v) e =
@@ -411,17 +474,17 @@ module _ (a b : Arm) (w : Write) (ha : Sized a) (hb : Sized b) (e : b ≡ armWit
   cell-after = rw cells-after (cell-same (banks a) (placed (itemOf w)) _ (written a ha w r .within))
 
   -- its item
-  held-same : holds b (itemOf w) ≡ givenBy w
+  held-same : holds b (itemOf w) ≡ outcome.Data (givenBy w)
   held-same =
       let d = written a ha w r in
       located b hb (itemOf w) (item-ranged w r) .answers
-      ∙ ap (dataOf (kindOf (itemOf w))) (rw cell-after (seen-same (viewOf (itemOf w)) _ (brought w) (mine .bits) (d .binary)))
+      ∙ ap (answerFor (itemOf w)) (rw cell-after (seen-same (viewOf (itemOf w)) _ (brought w) (mine .bits) (d .binary)))
       ∙ d .given
 
   -- another part of that cell
   part-kept : (l : Load) → Located a l → Other (itemOf w) l → placed (itemOf w) ≡ placed l
       → (p q : View) → viewOf (itemOf w) ≡ p → viewOf l ≡ q
-      → (c : Row) → Bitwise p c → Binary p (brought w) → Bitwise q c → seen q (merged p c (brought w)) ≡ seen q c
+      → (c : Cell) → Bitwise p c → Binary p (brought w) → Bitwise q c → seen q (merged p c (brought w)) ≡ seen q c
   part-kept l i o s entire entire ep eq c bp v bq =
       absurd (o .not-item (sym (mine .item) ∙ ap₂ itemAt s (ep ∙ sym eq) ∙ i .item))
   part-kept l i o s entire (bitAt m) ep eq c bp v bq =
@@ -435,7 +498,7 @@ module _ (a b : Arm) (w : Write) (ha : Sized a) (hb : Sized b) (e : b ≡ armWit
 
   -- another item
   held-other : (l : Load) → LoadInRange l → Other (itemOf w) l → holds b l ≡ holds a l
-  held-other l z o = located b hb l z .answers ∙ ap (dataOf (kindOf l)) (go (same-place (placed (itemOf w)) (placed l))) ∙ sym (i .answers)
+  held-other l z o = located b hb l z .answers ∙ ap (answerFor l) (go (same-place (placed (itemOf w)) (placed l))) ∙ sym (i .answers)
     where
       i : Located a l
       i = located a ha l z
@@ -452,19 +515,20 @@ module _ (a b : Arm) (w : Write) (ha : Sized a) (hb : Sized b) (e : b ≡ armWit
 abbrev Shown : Arm → Load → View → Type 0
 Shown a l entire = Unit
 Shown a l (bitAt n) =
-    LoadInRange (portOf l) × ((v : ℕ) × ((holds a (portOf l) ≡ held.Port (pos v)) × (holds a l ≡ held.Signal (pos (bit v n)))))
+    LoadInRange (portOf l) × ((v : ℕ) × ((holds a (portOf l) ≡ outcome.Data (held.Port (pos v))) × (holds a l ≡ outcome.Data (held.Signal (pos (bit v n))))))
 
 shown : (a : Arm) (l : Load) → LoadInRange l → Shown a l (viewOf l)
 unfolding holds
 shown a (load.Timer n) i = tt
 shown a (load.Register n) i = tt
 shown a (load.Row n) i = tt
-shown a (load.Input g) i = (number-ranged _ (g .0 / 8) (omega arith) (omega (arith, passed _ _ _ i .high)), (_, (refl, refl)))
+shown a (load.Input g) i = (number-ranged _ _ _ (g .0 / 8) (omega arith) (omega (arith, passed _ _ _ i .high)), (_, (refl, refl)))
 shown a (load.InputPort p) i = tt
-shown a (load.Output g) i = (number-ranged _ (g .0 / 8) (omega arith) (omega (arith, passed _ _ _ i .high)), (_, (refl, refl)))
+shown a (load.Output g) i = (number-ranged _ _ _ (g .0 / 8) (omega arith) (omega (arith, passed _ _ _ i .high)), (_, (refl, refl)))
 shown a (load.OutputPort p) i = tt
-shown a (load.MemoryBit g) i = (number-ranged _ ((g .0 - 256) / 8) (omega arith) (omega (arith, passed _ _ _ i .high)), (_, (refl, refl)))
+shown a (load.MemoryBit g) i = (number-ranged _ _ _ ((g .0 - 256) / 8) (omega arith) (omega (arith, passed _ _ _ i .high)), (_, (refl, refl)))
 shown a (load.MemoryPort p) i = tt
+shown a (load.Step n) i = tt
 
 -- ---- a box that setup and calls leave
 
@@ -491,10 +555,12 @@ sized b r k l =
             t .memory .row k l,
             t .timers .row k l,
             t .registers .row k l,
+            program-length k (b .tables .programs),
           );
       inputs = λ n. omega (arith, in-size kind.Port _ (r .range .inputs k n));
       outputs = λ n. omega (arith, in-size kind.Port _ (r .range .outputs k n));
       memory = λ n. omega (arith, in-size kind.Port _ (r .range .memory k n));
+      steps = program-length k (b .tables .programs);
     }
 
 module _ (b : Box) (r : Ready b) (k : ℕ) (f : Fitted k (b .stations)) where
@@ -504,11 +570,11 @@ module _ (b : Box) (r : Ready b) (k : ℕ) (f : Fitted k (b .stations)) where
   writable q e = rw (ne-eqb (stationAt b k) 0 (f .1), le-ltb 99 (stationAt b k) (r .small k f)) e
 
   -- the answer to an LN that can be written is what the arm holds
-  told-asked : (l : Load) → judgeAsked (stationAt b k) (request.Load l) ≡ 0 → told b k l ≡ replies (holds (armOf k b) l)
+  told-asked : (l : Load) → judgeAsked (stationAt b k) (request.Load l) ≡ 0 → told b k l ≡ theOutcome (holds (armOf k b) l)
   unfolding told writeRequest
   told-asked l e = exchanged b k (stationAt b k) (request.Load l) 64 64 refl (r .apart) f (r .lent k f) (r .tallied) (r .range) e (omega arith) .reply
 
-  told-held : (l : Load) → LoadInRange l → told b k l ≡ replies (holds (armOf k b) l)
+  told-held : (l : Load) → LoadInRange l → told b k l ≡ theOutcome (holds (armOf k b) l)
   told-held l e = told-asked l (writable (request.Load l) e)
 
 -- ---- a write that comes to slot k
@@ -540,7 +606,7 @@ module _ (b : Box) (r : Ready b) (k : ℕ) (f : Fitted k (b .stations)) where
   unfolding after
   arm-other w h j ne =
       let d = decided (b .stations) _ k (callTo k w) (r .lent k f) (r .apart) f (addressed w h) in
-      other b j (decideOn b (callTo k w)) (λ e. let z : j ≡ k = cc (concerns-own w) in ne z)
+      other b j (bringsByte (callTo k w)) (decideOn b (callTo k w)) (sound (b .stations) _ (callTo k w)) (λ e. let z : j ≡ k = cc (concerns-own w) in ne z)
 
   ranged : (w : Write) → Accepts (stationAt b k) w → Ranged w
   unfolding readRequest
@@ -581,7 +647,7 @@ told-alike b c rb rc st j f l same = go (eqb (judgeAsked (stationAt b j) (reques
     go : (t : Bool) → eqb (judgeAsked (stationAt b j) (request.Load l)) 0 ≡ t → told c j l ≡ told b j l
     go true z =
         let e = eqb-true _ 0 z in
-        told-asked c rc j (rw st f) l (rw st e) ∙ ap replies (same (asked-ok _ _ e .1)) ∙ sym (told-asked b rb j f l e)
+        told-asked c rc j (rw st f) l (rw st e) ∙ ap theOutcome (same (asked-ok _ _ e .1)) ∙ sym (told-asked b rb j f l e)
     go false z = told-refused c j _ l (ap (λ t. getD t j 0) st) z ∙ sym (told-refused b j _ l refl z)
 
 module _ (b : Box) (r : Ready b) (k : ℕ) (f : Fitted k (b .stations)) where
@@ -597,7 +663,7 @@ module _ (b : Box) (r : Ready b) (k : ℕ) (f : Fitted k (b .stations)) where
       let q : Ready c = ready-after b r k f w h in
       let i = ranged b r k f w h in
       told-held c q k (rw (after-stations b (callTo k w)) f) (itemOf w) (item-ranged w i)
-      ∙ ap replies (held-same (armOf k b) (armOf k c) w (sized b r k (f .0)) (sized c q k (f .0)) (arm-own b r k f w h) i)
+      ∙ ap theOutcome (held-same (armOf k b) (armOf k c) w (sized b r k (f .0)) (sized c q k (f .0)) (arm-own b r k f w h) i)
 
   others-told : (w : Write) → Accepts (stationAt b k) w → (j : ℕ) → Fitted j (b .stations)
       → (l : Load) → (j ≡ k → Other (itemOf w) l) → told (after b (callTo k w)) j l ≡ told b j l
@@ -617,7 +683,7 @@ module _ (b : Box) (r : Ready b) (k : ℕ) (f : Fitted k (b .stations)) where
       → (v : ℕ) × ((told b k (portOf l) ≡ replies (held.Port (pos v))) × (told b k l ≡ replies (held.Signal (pos (bit v n)))))
   signals-told l n e i =
       let s : Shown (armOf k b) l (bitAt n) = rw e at (shown (armOf k b) l i) in
-      (s .1 .0, (told-held b r k f (portOf l) (s .0) ∙ ap replies (s .1 .1 .0), told-held b r k f l i ∙ ap replies (s .1 .1 .1)))
+      (s .1 .0, (told-held b r k f (portOf l) (s .0) ∙ ap theOutcome (s .1 .1 .0), told-held b r k f l i ∙ ap theOutcome (s .1 .1 .1)))
 
 -- ---- from setup
 

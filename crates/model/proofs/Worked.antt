@@ -6,13 +6,13 @@ use Rattle.text.specs.Hundredths.{decimals, magnitude, readHundredths, magnitud
 use Rattle.text.specs.Put.{xorOnto}
 use Rattle.frame.specs.Checksum.{lrcOf}
 use Rattle.frame.specs.Frame.{stationOf, readInner, readFrame, opening, closing, frameOf}
-use Rattle.frame.specs.Fields.{first, more, fields}
+use Rattle.frame.specs.Fields.{first, more, fields, readFields}
 use Rattle.names.specs.Command.{same, nameOf, among, commandOf}
 use Rattle.numbers.specs.Ranges.{inRange, eachInRange, allInRange}
 use Rattle.data.specs.Ranges.{judge}
-use Rattle.data.specs.Data.{readFields, dataText}
+use Rattle.numbers.specs.Numbers.{numbersText}
 use Rattle.bodies.specs.Body.{readShape, requestOrRefusal, readBody, bodyText}
-use Rattle.replies.specs.Reply.{dataFit, judgeOutcome, statusText, outcomeText}
+use Rattle.replies.specs.Reply.{contentFits, judgeOutcome, statusText, outcomeText}
 use Rattle.harl.specs.Message.{judgeAsked, writeRequest, judgeReply, writeReply}
 use Rattle.tables.specs.Tables.{loaded, stored, zeros}
 use Rattle.model.specs.Setup.{tooHigh, contains, repeats, setupNumber, setupRefusal}
@@ -22,7 +22,7 @@ use Rattle.model.specs.Worked.{resultOf, worked, Worked}
 pub worked-out : Worked
 unfolding resultOf worked until readWhole digitsOnto digit leading shortest padded decimals magnitude
     readHundredths magnitudeText hundredthsText xorOnto lrcOf opening closing frameOf first more fields same
-    nameOf among commandOf inRange eachInRange allInRange judge readFields dataText readShape requestOrRefusal readBody bodyText dataFit judgeOutcome statusText
+    nameOf among commandOf inRange eachInRange allInRange judge readFields numbersText readShape requestOrRefusal readBody bodyText contentFits judgeOutcome statusText
     outcomeText judgeAsked writeRequest judgeReply writeReply stationOf readInner readFrame loaded stored zeros
     tooHigh contains repeats setupNumber setupRefusal setup scan slotOf hasRoom decide respond answer
 worked-out = refl

@@ -12,7 +12,8 @@ use Rattle.bodies.specs.declared.body.Judged.{Judged}
 use Rattle.bodies.specs.declared.body.Judged.the-variants as judged
 use Rattle.bodies.specs.Body.{readBody}
 use Rattle.bodies.specs.Position.{bodyPosition}
-use Rattle.replies.specs.Reply.{performedText, refusalText}
+use Rattle.replies.specs.declared.reply.Outcome.{Outcome}
+use Rattle.replies.specs.Reply.{numberIn, performedText, refusalText}
 use Rattle.tables.specs.Tables.{Tables, withInputs, set2, performed, outcomeAt, zeros}
 use Rattle.model.specs.Call.{Call, serve, input, outputsOn, Answer, noReply, theCount}
 use Rattle.programs.specs.Memory.{size}
@@ -109,10 +110,14 @@ performTables t (countAsked k) = t
 unfoldable pub perform : Box → Decision → Box
 perform b d = record { stations = b .stations; tables = performTables (b .tables) d }
 
+-- what a request that was performed is answered with: its number is 16 EMPTY (document 02, E3) or 0
+abbrev pub answered : ℕ → Outcome → Answer
+answered s o = record { number = numberIn o; position = 0; reply = frameOf s (performedText o) }
+
 unfoldable pub respond : Box → Decision → Answer
 respond b (unanswered n p) = noReply n p
 respond b (refused k s n p store) = record { number = n; position = p; reply = frameOf s (refusalText n store) }
-respond b (accepted k s r) = record { number = 0; position = 0; reply = frameOf s (performedText (outcomeAt k r (b .tables))) }
+respond b (accepted k s r) = answered s (outcomeAt k r (b .tables))
 respond b (inputSet k p v) = noReply 0 0
 respond b (countAsked k) = theCount (getD (b .tables .on) k 0)
 

@@ -8,6 +8,7 @@ use Rattle.commands.specs.declared.request.Request.{Request}
 use Rattle.commands.specs.declared.request.Request.the-variants as request
 use Rattle.replies.specs.declared.reply.Outcome.{Outcome}
 use Rattle.replies.specs.declared.reply.Outcome.the-variants as outcome
+use Rattle.replies.specs.Reply.{numberIn}
 use Rattle.harl.specs.Message.{writeRequest, theOutcome, readReply}
 use Rattle.model.specs.Call.{Call, serve}
 use Rattle.model.specs.Box.{Box, setup, after, answer, run}
@@ -15,9 +16,9 @@ use Rattle.model.specs.Lone.{Arm, holds, replaced}
 use Rattle.model.specs.Addressed.{Fitted, armOf}
 use Rattle.model.specs.Ranges.{bringBytes}
 
--- what an arm answers: the data held for an LN, done for an SN
+-- what an arm answers: what is held for an LN, which for a step is its texts as last stored, or EMPTY; done for an SN
 abbrev pub outcomeOf : Arm → Request → Outcome
-outcomeOf a (request.Load l) = outcome.Data (holds a l)
+outcomeOf a (request.Load l) = holds a l
 outcomeOf a (request.Store q) = outcome.Status 0
 
 -- the arm afterwards: as it was for an LN, with the data for an SN
@@ -27,8 +28,8 @@ armAfter a (request.Store q) = replaced a q
 
 -- call c brings request r to slot k, whose arm has station s
 pub record Exchanged (b : Box) (k s : ℕ) (r : Request) (c : Call) : Type 0 where
-  -- it is not refused
-  pub number : answer b c .number ≡ 0
+  -- it is not refused, but with 16 for a step never written
+  pub number : answer b c .number ≡ numberIn (outcomeOf (armOf k b) r)
   -- its reply is read as what the arm answers
   pub reply : readReply (answer b c .reply) s r ≡ theOutcome (outcomeOf (armOf k b) r)
   -- the arm keeps what is stored

@@ -13,16 +13,18 @@ use Rattle.commands.specs.declared.request.Store.{Store}
 use Rattle.commands.specs.declared.request.Store.the-variants as store
 use Rattle.commands.specs.declared.request.Request.{Request}
 use Rattle.commands.specs.declared.request.Request.the-variants as request
-use Rattle.replies.specs.declared.reply.Data.{Data}
 use Rattle.replies.specs.declared.reply.Data.the-variants as held
 use Rattle.bodies.specs.declared.body.Judged.{Judged}
 use Rattle.bodies.specs.declared.body.Judged.the-variants as judged
 use Rattle.bodies.specs.Body.{readBody}
 use Rattle.bodies.specs.Position.{bodyPosition}
-use Rattle.replies.specs.Reply.{contentOf, contentText, refusalText, doneText}
+use Rattle.replies.specs.declared.reply.Outcome.{Outcome}
+use Rattle.replies.specs.declared.reply.Outcome.the-variants as outcome
+use Rattle.replies.specs.Reply.{stepOutcome, numberIn, performedText, refusalText, doneText}
+use Rattle.steps.specs.Step.{textsOf}
 use Rattle.ports.specs.Bits.{bit, withBit}
 use Rattle.ports.specs.On.{signalsOn}
-use Rattle.tables.specs.Tables.{PerKind, eachField, eachWith, asRow, tables, withTimers, withRegisters, withRows, withInputs, withOutputs, withMemory}
+use Rattle.tables.specs.Tables.{PerKind, eachField, eachWith, asRow, tables, withTimers, withRegisters, withRows, withInputs, withOutputs, withMemory, withPrograms}
 use Rattle.model.specs.Call.{Answer, noReply, theCount}
 
 -- 16 timers, 64 registers, 100 rows, 32 input, 32 output and 16 memory ports; it keeps no number of outputs that are on; and 256
@@ -50,17 +52,18 @@ signalIn ports n = bit (getD ports (n / 8) 0) (n % 8)
 abbrev pub withSignal : List ℕ → ℕ → ℕ → List ℕ
 withSignal ports n v = set ports (n / 8) (withBit (getD ports (n / 8) 0) (n % 8) v)
 
--- the data held under a number
-unfoldable pub holds : Arm → Load → Data
-holds a (load.Timer n) = held.Timer (pos (getD (a .timers) n 0))
-holds a (load.Register n) = held.Register (pos (getD (a .registers) n 0))
-holds a (load.Row n) = held.Row (asRow (eachField (λ c. getD c n (pos 0)) (a .rows)))
-holds a (load.Input g) = held.Signal (pos (signalIn (a .inputs) (g .0)))
-holds a (load.InputPort p) = held.Port (pos (getD (a .inputs) (p .0) 0))
-holds a (load.Output g) = held.Signal (pos (signalIn (a .outputs) (g .0)))
-holds a (load.OutputPort p) = held.Port (pos (getD (a .outputs) (p .0) 0))
-holds a (load.MemoryBit g) = held.Signal (pos (signalIn (a .memory) (g .0 - 256)))
-holds a (load.MemoryPort p) = held.Port (pos (getD (a .memory) (p .0) 0))
+-- what is held under a number: data, or for a step never written 16 EMPTY
+unfoldable pub holds : Arm → Load → Outcome
+holds a (load.Timer n) = outcome.Data (held.Timer (pos (getD (a .timers) n 0)))
+holds a (load.Register n) = outcome.Data (held.Register (pos (getD (a .registers) n 0)))
+holds a (load.Row n) = outcome.Data (held.Row (asRow (eachField (λ c. getD c n (pos 0)) (a .rows))))
+holds a (load.Input g) = outcome.Data (held.Signal (pos (signalIn (a .inputs) (g .0))))
+holds a (load.InputPort p) = outcome.Data (held.Port (pos (getD (a .inputs) (p .0) 0)))
+holds a (load.Output g) = outcome.Data (held.Signal (pos (signalIn (a .outputs) (g .0))))
+holds a (load.OutputPort p) = outcome.Data (held.Port (pos (getD (a .outputs) (p .0) 0)))
+holds a (load.MemoryBit g) = outcome.Data (held.Signal (pos (signalIn (a .memory) (g .0 - 256))))
+holds a (load.MemoryPort p) = outcome.Data (held.Port (pos (getD (a .memory) (p .0) 0)))
+holds a (load.Step n) = stepOutcome n (getD (a .programs) n [])
 
 -- the data replace what is held under the number, and nothing else changes
 unfoldable pub replaced : Arm → Store → Arm
@@ -71,15 +74,16 @@ replaced a (store.Output g v) = withOutputs a (withSignal (a .outputs) (g .0) (n
 replaced a (store.OutputPort p v) = withOutputs a (set (a .outputs) (p .0) (natAbs v))
 replaced a (store.MemoryBit g v) = withMemory a (withSignal (a .memory) (g .0 - 256) (natAbs v))
 replaced a (store.MemoryPort p v) = withMemory a (set (a .memory) (p .0) (natAbs v))
+replaced a (store.Step n s) = withPrograms a (set (a .programs) n (textsOf s))
 
 pub record Step : Type 0 where
   pub arm : Arm
   pub answer : Answer
 
--- an accepted LN replies the data held, an accepted SN "00"
+-- an accepted LN replies what is held, with the number 16 for EMPTY, an accepted SN "00"
 abbrev pub answerRequest : ℕ → Arm → Request → Step
 answerRequest own a (request.Load l) =
-    record { arm = a; answer = record { number = 0; position = 0; reply = frameOf own (contentText (contentOf (holds a l))) } }
+    record { arm = a; answer = record { number = numberIn (holds a l); position = 0; reply = frameOf own (performedText (holds a l)) } }
 answerRequest own a (request.Store q) =
     record { arm = replaced a q; answer = record { number = 0; position = 0; reply = frameOf own doneText } }
 

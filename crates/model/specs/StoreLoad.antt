@@ -64,6 +64,7 @@ dataIn (store.Output g v) = held.Signal v
 dataIn (store.OutputPort p v) = held.Port v
 dataIn (store.MemoryBit g v) = held.Signal v
 dataIn (store.MemoryPort p v) = held.Port v
+dataIn (store.Step n s) = held.Step n s
 
 -- the item of either write
 abbrev pub itemOf : Write → Load
@@ -88,6 +89,7 @@ portOf (load.Output g) = load.OutputPort (port (g .0 / 8))
 portOf (load.OutputPort p) = load.OutputPort p
 portOf (load.MemoryBit g) = load.MemoryPort (port ((g .0 - 256) / 8))
 portOf (load.MemoryPort p) = load.MemoryPort p
+portOf (load.Step n) = load.Step n
 
 -- all of an item, or a bit of it
 pub data View : Type 0 where
@@ -105,6 +107,7 @@ viewOf (load.Output g) = bitAt (g .0 % 8)
 viewOf (load.OutputPort p) = entire
 viewOf (load.MemoryBit g) = bitAt ((g .0 - 256) % 8)
 viewOf (load.MemoryPort p) = entire
+viewOf (load.Step n) = entire
 
 -- m is another item than l: not l, not the port of l, and no signal of the port l
 pub record Other (l m : Load) : Type 0 where
