@@ -3,17 +3,18 @@
 // The caller owns all memory. No two areas overlap. No pointer is null; one to an area of length 0 may be any other.
 // The tables of a box come in the order timers, registers, x, y, z, w, inputs, outputs, memory, on. The first index of
 // each is the slot. Timers, x, y, z and w are in hundredths; inputs, outputs and memory are ports of eight bits; on is the
-// number of outputs that are on, which setup and serving keep. stations has the station of each slot, 0 where it is
-// unfitted.
+// number of outputs that are on, which setup and serving keep. programs is a memory of 40,960 bytes for the START programs
+// of the four arms (docs/MEMORY.md). stations has the station of each slot, 0 where it is unfitted.
 //
 // Refusal numbers, in the order checked; 0 is no refusal:
-//   1 ROOM     the reply area is under 64 bytes          8 ABSENT   no fitted arm has the station
-//   2 LENGTH   the slice is under 6 or over 255 bytes    9 COMMAND  the first field is no command
-//   3 START    the first byte is not STX                10 SHAPE    a wrong count of fields, or a field not in its form
-//   4 END      the last byte but one is not ETX         11 NUMBER   the number is outside its range
-//   5 LRC      the last byte is not the LRC             12 VALUE    data are outside their range
-//   6 STRAY    a byte between STX and ETX not 20h..7Eh  13 SETUP    a station above 99, or a nonzero one twice
-//   7 STATION  no SP, or no station before the first    14 INPUT    a slot above 3 or unfitted, or a port above 31
+//   1 ROOM     the reply area is under 64 bytes,         8 ABSENT   no fitted arm has the station
+//              or programs has another length            9 COMMAND  the first field is no command
+//   2 LENGTH   the slice is under 6 or over 255 bytes   10 SHAPE    a wrong count of fields, or a field not in its form
+//   3 START    the first byte is not STX                11 NUMBER   the number is outside its range
+//   4 END      the last byte but one is not ETX         12 VALUE    data are outside their range
+//   5 LRC      the last byte is not the LRC             13 SETUP    a station above 99, or a nonzero one twice
+//   6 STRAY    a byte between STX and ETX not 20h..7Eh  14 INPUT    a slot above 3 or unfitted, or a port above 31
+//   7 STATION  no SP, or no station before the first
 #ifndef LLAMPUT_H
 #define LLAMPUT_H
 
@@ -39,19 +40,21 @@ struct llamput_count {
     uint16_t count;
 };
 
-// Sets up a new box, whatever the memory held: every table zero, each slot with its station from want, 0 for none.
-// Returns 0, or 13 where it refuses: then every table is zero and no slot is fitted.
+// Sets up a new box, whatever the memory held: every table and programs zero, each slot with its station from want, 0 for
+// none. Returns 0, or 1 or 13 where it refuses: then every table is zero, no slot is fitted, and programs is untouched.
 uint8_t llamput_setup(uint16_t timers[4][16], uint16_t registers[4][64], int32_t x[4][100], int32_t y[4][100],
                       int32_t z[4][100], int32_t w[4][100], uint8_t inputs[4][32], uint8_t outputs[4][32],
-                      uint8_t memory[4][16], uint16_t on[4], uint8_t stations[4], const uint16_t want[4]);
+                      uint8_t memory[4][16], uint16_t on[4], uint8_t *programs, size_t programs_length,
+                      uint8_t stations[4], const uint16_t want[4]);
 
 // Serves a slice that should be one frame: performs its request on the arm addressed, and writes the reply into reply.
-// Refusals 1 to 8 write no reply, 9 to 12 do; none changes a table. Bytes of reply past the length stay as they were.
+// Refusals 1 to 8 write no reply, 9 to 12 do; none changes a table or programs. Bytes of reply past the length stay as
+// they were.
 struct llamput_sent llamput_serve(uint16_t timers[4][16], uint16_t registers[4][64], int32_t x[4][100],
                                   int32_t y[4][100], int32_t z[4][100], int32_t w[4][100], uint8_t inputs[4][32],
-                                  uint8_t outputs[4][32], uint8_t memory[4][16], uint16_t on[4],
-                                  const uint8_t stations[4], const uint8_t *slice, size_t slice_length, uint8_t *reply,
-                                  size_t reply_length);
+                                  uint8_t outputs[4][32], uint8_t memory[4][16], uint16_t on[4], uint8_t *programs,
+                                  size_t programs_length, const uint8_t stations[4], const uint8_t *slice,
+                                  size_t slice_length, uint8_t *reply, size_t reply_length);
 
 // Puts a byte into an input port of the slot's arm, as the arm's own wiring does.
 // Returns 0, or 14 where it refuses: then nothing changes.

@@ -1,6 +1,6 @@
 //! Frames, calls and memory from a generator with a fixed seed.
 
-use crate::reference::{lrc, Tables};
+use crate::reference::{lrc, Tables, PROGRAMS};
 use crate::reference::{ABSENT, COMMAND, END, ETX, LENGTH, LRC, NUMBER, SHAPE, START, STATION, STRAY, STX, VALUE};
 
 /// The stations of the benchmark set.
@@ -509,13 +509,23 @@ fn input(random: &mut Random) -> Call {
     Call::Input { slot, port, byte: random.byte() }
 }
 
-/// Memory that no call leaves: one slot is unfitted, and the ports and the numbers of outputs on are any.
+/// The length of a memory that is lent for the START programs: a wrong one so often.
+pub fn lent(random: &mut Random, often: usize) -> usize {
+    match random.one_in(often) {
+        true => random.pick(&[0, 1, 64, PROGRAMS - 1, PROGRAMS + 1, 65_536]),
+        false => PROGRAMS,
+    }
+}
+
+/// Memory that no call leaves: one slot is unfitted, and the ports, the numbers of outputs on and the START programs are
+/// any.
 pub fn other_memory(random: &mut Random) -> Tables {
     let mut tables = Tables { stations: STATIONS, ..Tables::new() };
     tables.stations[random.below(4)] = 0;
     random.fill(tables.inputs.as_flattened_mut());
     random.fill(tables.outputs.as_flattened_mut());
     random.fill(tables.memory.as_flattened_mut());
+    random.fill(&mut tables.programs);
     for on in &mut tables.on {
         let any = random.next() as u16;
         *on = random.pick(&[0, u16::MAX, any]);

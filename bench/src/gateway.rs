@@ -27,6 +27,8 @@ extern "C" {
         outputs: *mut [u8; 32],
         memory: *mut [u8; 16],
         on: *mut u16,
+        programs: *mut u8,
+        programs_length: usize,
         stations: *mut u8,
         want: *const u16,
     ) -> u8;
@@ -42,6 +44,8 @@ extern "C" {
         outputs: *mut [u8; 32],
         memory: *mut [u8; 16],
         on: *mut u16,
+        programs: *mut u8,
+        programs_length: usize,
         stations: *const u8,
         slice: *const u8,
         slice_length: usize,
@@ -69,8 +73,8 @@ extern "C" {
     fn llamput_outputs_on(on: *const u16, stations: *const u8, slot: usize) -> LlamputCount;
 }
 
-// In each call the areas are fields of one exclusively borrowed struct or borrowed apart from it, so none overlap,
-// and each has the length that the header declares.
+// In each call the areas are fields of one exclusively borrowed struct, or what such a field owns, or borrowed apart from
+// it, so none overlap, and each has the length that the header declares or that is given.
 
 pub fn setup(tables: &mut Tables, want: &[u16; 4]) -> u8 {
     unsafe {
@@ -85,6 +89,8 @@ pub fn setup(tables: &mut Tables, want: &[u16; 4]) -> u8 {
             tables.outputs.as_mut_ptr(),
             tables.memory.as_mut_ptr(),
             tables.on.as_mut_ptr(),
+            tables.programs.as_mut_ptr(),
+            tables.programs.len(),
             tables.stations.as_mut_ptr(),
             want.as_ptr(),
         )
@@ -105,6 +111,8 @@ pub fn serve(tables: &mut Tables, slice: &[u8], reply: &mut [u8]) -> Sent {
             tables.outputs.as_mut_ptr(),
             tables.memory.as_mut_ptr(),
             tables.on.as_mut_ptr(),
+            tables.programs.as_mut_ptr(),
+            tables.programs.len(),
             tables.stations.as_ptr(),
             slice.as_ptr(),
             slice.len(),

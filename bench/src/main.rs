@@ -76,6 +76,13 @@ impl Pair {
         Pair { gateway: memory.clone(), reference: memory, is_box: false }
     }
 
+    /// Lends a memory of that length for the START programs: the one that was lent, cut or with further bytes.
+    fn lend(&mut self, length: usize) {
+        for tables in [&mut self.gateway, &mut self.reference] {
+            tables.programs.resize(length, 0x21);
+        }
+    }
+
     fn agree(&mut self) -> Result<(), String> {
         self.same_tables()?;
         match self.is_box {
@@ -92,9 +99,9 @@ impl Pair {
             if kept != counted || stations[slot] == 0 && kept != 0 {
                 return Err(format!("slot {slot} keeps {kept} outputs on, its ports have {counted}"));
             }
-            self.outputs_on(slot)?;
+            self.ask(slot)?;
         }
-        Ok(())
+        self.same_tables()
     }
 
     /// Each number has moved as the ones in its output ports have, modulo 65536, and asking gives it.
@@ -140,6 +147,7 @@ impl Pair {
             ("outputs", gateway.outputs == reference.outputs),
             ("memory", gateway.memory == reference.memory),
             ("on", gateway.on == reference.on),
+            ("programs", gateway.programs == reference.programs),
         ];
         same.iter().find(|(_, same)| !same).map_or("stations", |(name, _)| name)
     }
@@ -167,16 +175,21 @@ impl Pair {
         Ok(reference)
     }
 
-    /// Asks both sides, of which neither changes by it.
-    fn outputs_on(&mut self, slot: usize) -> Result<Count, String> {
+    /// Asks both sides.
+    fn ask(&mut self, slot: usize) -> Result<Count, String> {
         let gateway = gateway::outputs_on(&mut self.gateway, slot);
         let reference = reference::outputs_on(&self.reference, slot);
-        let context = || format!("outputs on {slot}: gateway {gateway:?}, reference {reference:?}");
-        if gateway != reference {
-            return Err(context());
+        match gateway == reference {
+            true => Ok(reference),
+            false => Err(format!("outputs on {slot}: gateway {gateway:?}, reference {reference:?}")),
         }
-        self.same_tables().map_err(|text| format!("{}: {text}", context()))?;
-        Ok(reference)
+    }
+
+    /// Asks both sides, of which neither changes by it.
+    fn outputs_on(&mut self, slot: usize) -> Result<Count, String> {
+        let count = self.ask(slot)?;
+        self.same_tables().map_err(|text| format!("outputs on {slot}: {text}"))?;
+        Ok(count)
     }
 
     /// Serves the slice on both sides with a reply area of that length at the start of a larger one.
@@ -253,11 +266,18 @@ fn compare_calls() -> Result<Counts, String> {
     for index in 0..CALLS {
         let call = frames::call(&mut random, &pair.reference.stations);
         let made = match call {
-            Call::Setup(want) => pair.setup(&want).map(|number| counts.returned(number)),
+            Call::Setup(want) => {
+                pair.lend(frames::lent(&mut random, 8));
+                pair.setup(&want).map(|number| counts.returned(number))
+            }
             Call::Input { slot, port, byte } => pair.input(slot, port, byte).map(|number| counts.returned(number)),
             Call::OutputsOn(slot) => pair.outputs_on(slot).map(|count| counts.asked(count)),
             Call::Serve { slice, room } => {
-                pair.serve(&slice, room, &mut random).map(|sent| counts.served(&slice, sent))
+                let length = pair.reference.programs.len();
+                pair.lend(frames::lent(&mut random, 100));
+                let sent = pair.serve(&slice, room, &mut random);
+                pair.lend(length);
+                sent.map(|sent| counts.served(&slice, sent))
             }
         };
         made.map_err(|text| format!("call {index}: {text}"))?;

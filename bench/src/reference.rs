@@ -1,5 +1,7 @@
-//! A bytewise server of the base commands as requests E2, E6, E7 and E9 leave them, written from documents 01 and 02
-//! alone.
+//! A bytewise server of the base commands as requests E2, E6, E7 and E9 leave them, with the memory that E3 lends, written
+//! from documents 01 and 02 alone.
+
+use std::mem;
 
 pub const ROOM: u8 = 1;
 pub const LENGTH: u8 = 2;
@@ -22,6 +24,9 @@ pub const ETX: u8 = 0x03;
 /// The least length of a reply area.
 pub const REPLY_ROOM: usize = 64;
 
+/// The length of the memory that is lent for the START programs.
+pub const PROGRAMS: usize = 40_960;
+
 /// The tables of four arms and their stations, 0 for an unfitted slot. The first index is the slot.
 #[derive(Clone, PartialEq, Eq)]
 pub struct Tables {
@@ -36,11 +41,13 @@ pub struct Tables {
     pub memory: [[u8; 16]; 4],
     /// How many outputs are on.
     pub on: [u16; 4],
+    /// The START programs, in a memory of any length.
+    pub programs: Vec<u8>,
     pub stations: [u8; 4],
 }
 
 impl Tables {
-    pub const fn new() -> Tables {
+    pub fn new() -> Tables {
         Tables {
             timers: [[0; 16]; 4],
             registers: [[0; 64]; 4],
@@ -52,6 +59,7 @@ impl Tables {
             outputs: [[0; 32]; 4],
             memory: [[0; 16]; 4],
             on: [0; 4],
+            programs: vec![0; PROGRAMS],
             stations: [0; 4],
         }
     }
@@ -73,14 +81,18 @@ pub struct Count {
     pub count: u16,
 }
 
-/// Sets up a new box. Returns 0 or SETUP; then no slot is fitted.
+/// Sets up a new box. Returns 0, or ROOM or SETUP; then no slot is fitted, and the START programs are as they were.
 pub fn setup(tables: &mut Tables, want: &[u16; 4]) -> u8 {
-    *tables = Tables::new();
+    *tables = Tables { programs: mem::take(&mut tables.programs), ..Tables::new() };
+    if tables.programs.len() != PROGRAMS {
+        return ROOM;
+    }
     for (slot, &station) in want.iter().enumerate() {
         if station > 99 || (station != 0 && want[..slot].contains(&station)) {
             return SETUP;
         }
     }
+    tables.programs.fill(0);
     tables.stations = want.map(|station| station as u8);
     0
 }
@@ -113,6 +125,9 @@ pub fn serve(tables: &mut Tables, slice: &[u8], area: &mut [u8]) -> Sent {
     let Some(area) = area.first_chunk_mut::<REPLY_ROOM>() else {
         return silent(ROOM, slice);
     };
+    if tables.programs.len() != PROGRAMS {
+        return silent(ROOM, slice);
+    }
     let (station, body) = match read_frame(slice) {
         Ok(frame) => frame,
         Err(number) => return silent(number, slice),

@@ -8,7 +8,7 @@ mod run; // run.rt: the script run line by line
 use crate::run::run;
 
 // The tables by the documents' letters: t, d, x, y, z, w, i, o, and m for the memory bits; on the numbers of outputs
-// that are on; s the stations.
+// that are on; p the START programs; s the stations.
 fn main() {
     let mut t = [[0u16; 16]; 4];
     let mut d = [[0u16; 64]; 4];
@@ -20,6 +20,7 @@ fn main() {
     let mut o = [[0u8; 32]; 4];
     let mut m = [[0u8; 16]; 4];
     let mut on = [0u16; 4];
+    let mut p = [0u8; 40960];
     let mut s = [0u8; 4];
     run(
         &mut t,
@@ -32,6 +33,7 @@ fn main() {
         &mut o,
         &mut m,
         &mut on,
+        &mut p[..],
         &mut s,
         b"# Check 2: no bytes, and 5 bytes.\0\
           F\0\
@@ -97,6 +99,7 @@ fn main() {
         &mut o,
         &mut m,
         &mut on,
+        &mut p[..],
         &mut s,
         b"# Requests of each kind. One that is accepted is written too.\0\
           Q\x021 LNT 5\x03\x51\0\
@@ -246,6 +249,7 @@ fn main() {
         &mut o,
         &mut m,
         &mut on,
+        &mut p[..],
         &mut s,
         b"# Row 99 is the last. A refused row changes no arm's tables.\0\
           setup 1 2 3 4\0\

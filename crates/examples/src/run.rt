@@ -68,12 +68,13 @@ fn step(
     o: &mut [[u8; 32]; 4],
     m: &mut [[u8; 16]; 4],
     on: &mut [u16; 4],
+    p: &mut [u8],
     s: &mut [u8; 4],
     line: &[u8],
     before: [i32; 2244],
 ) -> [i32; 2244] {
     if is_call(line) {
-        return call(t, d, x, y, z, w, i, o, m, on, s, line, before);
+        return call(t, d, x, y, z, w, i, o, m, on, p, s, line, before);
     }
     read(line);
     before
@@ -91,12 +92,28 @@ pub fn run(
     o: &mut [[u8; 32]; 4],
     m: &mut [[u8; 16]; 4],
     on: &mut [u16; 4],
+    p: &mut [u8],
     s: &mut [u8; 4],
     script: &[u8],
 ) {
     let mut before = [0; 2244];
     for k in 0..count(script, 0) {
-        let after = step(t, d, x, y, z, w, i, o, m, on, s, part(script, 0, k), before);
+        let after = step(
+            t,
+            d,
+            x,
+            y,
+            z,
+            w,
+            i,
+            o,
+            m,
+            on,
+            p,
+            s,
+            part(script, 0, k),
+            before,
+        );
         before = after;
     }
 }

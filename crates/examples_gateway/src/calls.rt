@@ -41,11 +41,12 @@ fn answer(
     o: &mut [[u8; 32]; 4],
     m: &mut [[u8; 16]; 4],
     on: &mut [u16; 4],
+    p: &mut [u8],
     s: &[u8; 4],
     slice: &[u8],
     area: &mut [u8],
 ) {
-    let sent = serve(t, d, x, y, z, w, i, o, m, on, s, slice, area);
+    let sent = serve(t, d, x, y, z, w, i, o, m, on, p, s, slice, area);
     put_written(sent.number, sent.length, b", no reply", area);
 }
 
@@ -61,6 +62,7 @@ fn set_up_other(want: [u16; 4]) {
     let mut o = [[7u8; 32]; 4];
     let mut m = [[7u8; 16]; 4];
     let mut on = [7u16; 4];
+    let mut p = [7u8; 40960];
     let mut s = [7u8; 4];
     put_two(setup(
         &mut t,
@@ -73,6 +75,7 @@ fn set_up_other(want: [u16; 4]) {
         &mut o,
         &mut m,
         &mut on,
+        &mut p[..],
         &mut s,
         want,
     ));
@@ -95,13 +98,14 @@ fn make(
     o: &mut [[u8; 32]; 4],
     m: &mut [[u8; 16]; 4],
     on: &mut [u16; 4],
+    p: &mut [u8],
     s: &mut [u8; 4],
     step: Step,
     rest: &[u8],
 ) {
     match step {
         Step::Setup(a, b, c, e) => {
-            put_two(setup(t, d, x, y, z, w, i, o, m, on, s, [a, b, c, e]));
+            put_two(setup(t, d, x, y, z, w, i, o, m, on, p, s, [a, b, c, e]));
             put_stations(s);
         }
         Step::Other(a, b, c, e) => set_up_other([a, b, c, e]),
@@ -130,12 +134,12 @@ fn make(
         }
         Step::Narrow => {
             let mut area = [0xaa; 63];
-            answer(t, d, x, y, z, w, i, o, m, on, s, rest, &mut area);
+            answer(t, d, x, y, z, w, i, o, m, on, p, s, rest, &mut area);
         }
-        Step::Ranges => try_row(t, d, x, y, z, w, i, o, m, on, s, rest),
+        Step::Ranges => try_row(t, d, x, y, z, w, i, o, m, on, p, s, rest),
         Step::Serve => {
             let mut area = [0xaa; 64];
-            answer(t, d, x, y, z, w, i, o, m, on, s, rest, &mut area);
+            answer(t, d, x, y, z, w, i, o, m, on, p, s, rest, &mut area);
         }
     }
 }
@@ -160,13 +164,14 @@ pub fn call(
     o: &mut [[u8; 32]; 4],
     m: &mut [[u8; 16]; 4],
     on: &mut [u16; 4],
+    p: &mut [u8],
     s: &mut [u8; 4],
     line: &[u8],
     before: [i32; 2244],
 ) -> [i32; 2244] {
     let step = step_of(line);
     put_label(step, line);
-    make(t, d, x, y, z, w, i, o, m, on, s, step, rest(line));
+    make(t, d, x, y, z, w, i, o, m, on, p, s, step, rest(line));
     let after = snapshot(t, d, x, y, z, w, i, o, m, on);
     put_tables(step, &before, &after);
     after

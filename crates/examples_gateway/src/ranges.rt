@@ -101,6 +101,7 @@ fn try_one(
     o: &mut [[u8; 32]; 4],
     m: &mut [[u8; 16]; 4],
     on: &mut [u16; 4],
+    p: &mut [u8],
     s: &[u8; 4],
     row: &[u8],
     trial: Trial,
@@ -122,6 +123,7 @@ fn try_one(
         o,
         m,
         on,
+        p,
         s,
         first_bytes(&area, length),
         &mut reply,
@@ -199,10 +201,11 @@ pub fn try_row(
     o: &mut [[u8; 32]; 4],
     m: &mut [[u8; 16]; 4],
     on: &mut [u16; 4],
+    p: &mut [u8],
     s: &[u8; 4],
     row: &[u8],
 ) {
     for n in 0..4 + 5 * count_of(row) {
-        try_one(t, d, x, y, z, w, i, o, m, on, s, row, trial_of(row, n));
+        try_one(t, d, x, y, z, w, i, o, m, on, p, s, row, trial_of(row, n));
     }
 }

@@ -2,7 +2,8 @@
 use bodies::body::Judged;
 use bodies::body::read_body;
 use replies::reply::Outcome;
-use replies::reply::put_outcome;
+use replies::reply::number_in;
+use replies::reply::put_performed;
 use replies::reply::put_refusal;
 use frame::reader::read_frame;
 use frame::writer::close_frame;
@@ -66,13 +67,13 @@ fn has_room(programs: &[u8], reply: &[u8]) -> bool
     programs.len() == SIZE
 }
 
-// Writes the reply to a request that was performed: data, or the status of an SN.
+// Writes the reply to a request that was performed.
 fn put_reply(reply: &mut [u8], station: u8, outcome: Outcome) -> usize
     requires { ⌜ 64 ≤ length (now reply) ⌝ }
     ensures { λ r. ⌜ PutAt (now (reply .entry)) 0 (frameOf station (performedText outcome)) r (now (reply .exit)) ⌝ }
 {
     let at = open_frame(reply, station);
-    let end = put_outcome(reply, at, true, outcome);
+    let end = put_performed(reply, at, outcome);
     close_frame(reply, end)
 }
 
@@ -133,7 +134,7 @@ fn serve_body(
             );
             let length = put_reply(reply, station, outcome);
             Sent {
-                number: 0,
+                number: number_in(outcome),
                 length,
                 position: 0,
             }

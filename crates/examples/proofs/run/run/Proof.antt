@@ -1,14 +1,16 @@
--- The measure: the lines left.
+-- The invariant: the lent memory is as long as it was. The measure: the lines left.
 use Prim.Native.Nat.{_-_}
+use mathlib.Core.Path.{_≡_}
 use borrow.Author.Needs.{needs}
+use lib.ListN.{length}
 use Rattle.examples.proofs.run.run.Statement.{statement}
 use Rattle.examples.proofs.run.run.Tie as tie
 
 abbrev Inv-loop : tie.InvT-loop
-Inv-loop t₀ d₀ x₀ y₀ z₀ w₀ i₀ o₀ m₀ on₀ s₀ script before₀ k₀ k-end t d x y z w i o m on s before k = Unit
+Inv-loop t₀ d₀ x₀ y₀ z₀ w₀ i₀ o₀ m₀ on₀ p₀ s₀ script before₀ k₀ k-end t d x y z w i o m on p s before k = length p ≡ length p₀
 
 abbrev μ-loop : tie.MeasureT-loop
-μ-loop t₀ d₀ x₀ y₀ z₀ w₀ i₀ o₀ m₀ on₀ s₀ script before₀ k₀ k-end t d x y z w i o m on s before k = k-end - k
+μ-loop t₀ d₀ x₀ y₀ z₀ w₀ i₀ o₀ m₀ on₀ p₀ s₀ script before₀ k₀ k-end t d x y z w i o m on p s before k = k-end - k
 
 count-requires : tie.Need-count-requires Inv-loop μ-loop
 count-requires c κs = search needs
@@ -31,6 +33,9 @@ loop-less c = search needs
 loop-again : tie.Need-loop-again Inv-loop μ-loop
 loop-again c = search needs
 
+same-length : tie.Need-same-length Inv-loop μ-loop
+same-length c = search needs
+
 returns : tie.Need-returns Inv-loop μ-loop
 returns c = search needs
 
@@ -47,4 +52,5 @@ run-spec =
     add-k
     loop-less
     loop-again
+    same-length
     returns)

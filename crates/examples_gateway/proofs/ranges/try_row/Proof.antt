@@ -1,14 +1,16 @@
--- The invariant: there are at most 24 trials. The measure: those left.
+-- The invariant: there are at most 24 trials, and the lent memory is as long as it was. The measure: the trials left.
 use Prim.Native.Nat.{_≤_, _-_}
+use mathlib.Core.Path.{_≡_}
 use borrow.Author.Needs.{needs}
+use lib.ListN.{length}
 use Rattle.examples_gateway.proofs.ranges.try_row.Statement.{statement}
 use Rattle.examples_gateway.proofs.ranges.try_row.Tie as tie
 
 abbrev Inv-loop : tie.InvT-loop
-Inv-loop t₀ d₀ x₀ y₀ z₀ w₀ i₀ o₀ m₀ on₀ s row n₀ n-end t d x y z w i o m on n = n-end ≤ 24
+Inv-loop t₀ d₀ x₀ y₀ z₀ w₀ i₀ o₀ m₀ on₀ p₀ s row n₀ n-end t d x y z w i o m on p n = (n-end ≤ 24) × (length p ≡ length p₀)
 
 abbrev μ-loop : tie.MeasureT-loop
-μ-loop t₀ d₀ x₀ y₀ z₀ w₀ i₀ o₀ m₀ on₀ s row n₀ n-end t d x y z w i o m on n = n-end - n
+μ-loop t₀ d₀ x₀ y₀ z₀ w₀ i₀ o₀ m₀ on₀ p₀ s row n₀ n-end t d x y z w i o m on p n = n-end - n
 
 count-of-requires : tie.Need-count-of-requires Inv-loop μ-loop
 count-of-requires c κs = search needs
@@ -37,6 +39,9 @@ loop-less c = search needs
 loop-again : tie.Need-loop-again Inv-loop μ-loop
 loop-again c = search needs
 
+same-length : tie.Need-same-length Inv-loop μ-loop
+same-length c = search needs
+
 returns : tie.Need-returns Inv-loop μ-loop
 returns c = search needs
 
@@ -55,4 +60,5 @@ try-row-spec =
     add-n
     loop-less
     loop-again
+    same-length
     returns)

@@ -3,7 +3,7 @@ use native.Mathlib.Omega.{arith}
 use borrow.Author.Needs.{needs}
 use Rattle.text.proofs.Digits.{shortest-short}
 use Rattle.frame.proofs.Writing.{opening-length, framed}
-use Rattle.bodies.proofs.Bodies.{refusal-length}
+use Rattle.replies.proofs.Texts.{refusal-length}
 use Rattle.gateway.proofs.serve.put_refused.Statement.{statement}
 use Rattle.gateway.proofs.serve.put_refused.Tie as tie
 

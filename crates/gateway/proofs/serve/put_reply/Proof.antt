@@ -1,10 +1,9 @@
 -- `o` is where the frame was opened, `b` where its body was put, and `f` where it was closed.
-use mathlib.Core.Bool.{true}
 use native.Mathlib.Omega.{arith}
 use borrow.Author.Needs.{needs}
 use Rattle.text.proofs.Digits.{shortest-short}
 use Rattle.frame.proofs.Writing.{opening-length, framed}
-use Rattle.bodies.proofs.Bodies.{outcome-length, performed-text}
+use Rattle.replies.proofs.Texts.{performed-length}
 use Rattle.gateway.proofs.serve.put_reply.Statement.{statement}
 use Rattle.gateway.proofs.serve.put_reply.Tie as tie
 
@@ -13,18 +12,18 @@ open-frame-requires c κs =
     let st = c .before .before .args .station in
     omega (arith, opening-length st, shortest-short st)
 
-put-outcome-requires : tie.Need-put-outcome-requires
-put-outcome-requires c κs =
+put-performed-requires : tie.Need-put-performed-requires
+put-performed-requires c κs =
     let o = c .before .before .before in
     let a = o .before .before .before .args in
-    omega (arith, opening-length (a .station), shortest-short (a .station), outcome-length true (a .outcome) .1, o .open-frame .kept .0, o .open-frame .ensures .0 .next)
+    omega (arith, opening-length (a .station), shortest-short (a .station), performed-length (a .outcome) .1, o .open-frame .kept .0, o .open-frame .ensures .0 .next)
 
 close-frame-requires : tie.Need-close-frame-requires
 close-frame-requires c κs =
     let b = c .before .before .before in
     let o = b .before .before .before .before in
     let a = o .before .before .before .args in
-    omega (arith, opening-length (a .station), shortest-short (a .station), outcome-length true (a .outcome) .1, o .open-frame .kept .0, o .open-frame .ensures .0 .next, b .put-outcome .kept .0, b .put-outcome .ensures .next)
+    omega (arith, opening-length (a .station), shortest-short (a .station), performed-length (a .outcome) .1, o .open-frame .kept .0, o .open-frame .ensures .0 .next, b .put-performed .kept .0, b .put-performed .ensures .next)
 
 same-length : tie.Need-same-length
 same-length c = search needs
@@ -34,9 +33,9 @@ returns c =
     let f = c .before .before in
     let b = f .before .before .before .before in
     let o = b .before .before .before .before in
-    rw performed-text at (framed (o .before .before .before .args .station) (o .open-frame .ensures) (b .put-outcome .ensures) (f .close-frame .ensures))
+    framed (o .before .before .before .args .station) (o .open-frame .ensures) (b .put-performed .ensures) (f .close-frame .ensures)
 
 pub put-reply-spec : {M : Type 1} → statement M
 put-reply-spec =
     tie.close
-    (tie.spec open-frame-requires put-outcome-requires close-frame-requires same-length returns)
+    (tie.spec open-frame-requires put-performed-requires close-frame-requires same-length returns)

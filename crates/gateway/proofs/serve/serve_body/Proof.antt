@@ -13,27 +13,28 @@ use Rattle.bodies.specs.declared.body.Judged.the-variants.{Accepted, Refused}
 use Rattle.replies.specs.declared.reply.Outcome.{Outcome}
 use Rattle.bodies.specs.Body.{readBody}
 use Rattle.bodies.specs.Position.{bodyPosition}
-use Rattle.replies.specs.Reply.{performedText, refusalText}
+use Rattle.replies.specs.Reply.{numberIn, performedText, refusalText}
 use Rattle.harl.specs.Message.{Wrote}
 use Rattle.tables.specs.Tables.{Tables, performed, Performed}
 use Rattle.model.specs.Box.{respond}
 use Rattle.gateway.specs.Serving.{BodyServed}
 use Rattle.harl.proofs.Accepted.{accepted-in-range}
-use Rattle.bodies.proofs.Bodies.{outcome-length, performed-text, refusal-length, frame-fits}
+use Rattle.frame.proofs.Short.{frame-fits}
+use Rattle.replies.proofs.Texts.{refusal-length, performed-length}
 use Rattle.harl.proofs.Laws.{body-judged, body-refused, wrote-all}
 use Rattle.gateway.proofs.serve.serve_body.Statement.{statement}
 use Rattle.gateway.proofs.serve.serve_body.Tie as tie
 
 -- what was put at the front of the area is the reply, and had room
-put-wrote : {n p m : ℕ} {xs ys : List ℕ} (s : ℕ) (text : List ℕ) → length text ≤ 35 → 64 ≤ length xs → PutAt xs 0 (frameOf s text) m ys → Wrote (record { number = n; position = p; bytes = frameOf s text }) xs (record { number = n; length = m; position = p }) ys
+put-wrote : {n p m : ℕ} {xs ys : List ℕ} (s : ℕ) (text : List ℕ) → length text ≤ 56 → 64 ≤ length xs → PutAt xs 0 (frameOf s text) m ys → Wrote (record { number = n; position = p; bytes = frameOf s text }) xs (record { number = n; length = m; position = p }) ys
 put-wrote s text short room w = wrote-all w (omega (arith, frame-fits s text (omega arith)))
 
 module _ {k s : ℕ} {slice : List ℕ} {t : Tables} {xs ys : List ℕ} {m : ℕ} (room : 64 ≤ length xs) where
-  asked-served : {r : Request} {o : Outcome} {t′ : Tables} → readBody (readFrame slice .body) ≡ Accepted r → Performed k r t t′ o → PutAt xs 0 (frameOf s (performedText o)) m ys → BodyServed k s slice t xs (record { number = 0; length = m; position = 0 }) t′ ys
+  asked-served : {r : Request} {o : Outcome} {t′ : Tables} → readBody (readFrame slice .body) ≡ Accepted r → Performed k r t t′ o → {n : ℕ} → n ≡ numberIn o → PutAt xs 0 (frameOf s (performedText o)) m ys → BodyServed k s slice t xs (record { number = n; length = m; position = 0 }) t′ ys
   unfolding respond
-  asked-served {r} {o} e p w =
+  asked-served {r} {o} e p q w =
       record {
-        answer-is = λ st. rw (e, ← p .outcome) (put-wrote s (performedText o) (rw performed-text at (outcome-length true o .1)) room w);
+        answer-is = λ st. rw (e, ← p .outcome, q) (put-wrote s (performedText o) (performed-length o .1) room w);
         tables-are = rw e (p .tables);
       }
 
@@ -75,12 +76,12 @@ same-length-2 c = search needs
 
 returns : tie.Need-returns
 returns c =
-    let w = c .before .before in
+    let w = c .before .before .before in
     let p = w .before .before .before .before in
     let v = p .before .before .before .before .before .before .before .before .before .before .before .before .before in
     let b = v .before .before in
     let a = b .before .before .before .before .before in
-    asked-served (a .pre .0 .1) (body-judged (a .args .slice .now) (b .read-body .ensures) (v .judged .given .1)) (p .perform .ensures) (w .put-reply .ensures)
+    asked-served (a .pre .0 .1) (body-judged (a .args .slice .now) (b .read-body .ensures) (v .judged .given .1)) (p .perform .ensures) (c .number-in .ensures) (w .put-reply .ensures)
 
 same-length-3 : tie.Need-same-length-3
 same-length-3 c = search needs
@@ -104,6 +105,7 @@ serve-body-spec =
     enum-known-judged
     perform-requires
     put-reply-requires
+    (λ c κs. search needs)
     enum-known-judged-2
     put-refused-requires
     same-length
