@@ -2,8 +2,6 @@
 use crate::cases::case_of;
 use crate::words::put_asked;
 use crate::words::put_outcome;
-use replies::reply::Data;
-use replies::reply::Outcome;
 use commands::request::Row;
 use harl::message::Answered;
 use harl::message::read_reply;
@@ -13,6 +11,8 @@ use print::put;
 use print::put_refusal;
 use print::put_slice;
 use print::put_written;
+use replies::reply::Data;
+use replies::reply::Outcome;
 
 // What a reply carries, and the letter of the request that it answers.
 struct Reply(Outcome, u8);

@@ -1,6 +1,4 @@
 // Typed requests, and what replies carry, in words.
-use replies::reply::Data;
-use replies::reply::Outcome;
 use commands::request::Load;
 use commands::request::Request;
 use commands::request::Row;
@@ -9,6 +7,8 @@ use print::part;
 use print::put;
 use print::put_signed;
 use print::put_whole;
+use replies::reply::Data;
+use replies::reply::Outcome;
 
 // The values of an item: none, one, or a row.
 enum Values {

@@ -1,16 +1,16 @@
 // Serving: a slice judged, performed on the arm that it addresses, and answered.
 use bodies::body::Judged;
 use bodies::body::read_body;
-use replies::reply::Outcome;
-use replies::reply::number_in;
-use replies::reply::put_performed;
-use replies::reply::put_refusal;
 use frame::reader::read_frame;
 use frame::writer::close_frame;
 use frame::writer::open_frame;
 use harl::message::Sent;
 use harl::message::refusal;
 use programs::memory::SIZE;
+use replies::reply::Outcome;
+use replies::reply::number_in;
+use replies::reply::put_performed;
+use replies::reply::put_refusal;
 use tables::perform::perform;
 ghost use mathlib.Core.Path.{_≡_};
 ghost use Prim.Native.Nat.{_≤_, _<_};

@@ -155,7 +155,6 @@ textsIn (texts ts) = ts
 abbrev nat : ℕ → Cell
 nat n = row (one (pos n))
 
-
 -- a cell's place: its bank, and its number there
 record Place : Type 0 where
   bank : ℕ

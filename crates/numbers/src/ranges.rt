@@ -1,7 +1,7 @@
 // How many values the data of a kind are, and their range.
-use commands::table::Kind;
 use commands::request::Row;
 use commands::request::fields_of;
+use commands::table::Kind;
 ghost use mathlib.Core.Path.{_≡_};
 ghost use Rattle.numbers.specs.Ranges.{countOf, limitsOf, inRange, allInRange};
 

@@ -1,8 +1,8 @@
 // The ports of one arm, whole and by signal. Inputs, outputs and memory share what reads them. A write of an output port
 // also changes the number of outputs that are on: it is given the number, and returns what it then is.
 use crate::place::Place;
-use replies::reply::Data;
 use commands::request::Port;
+use replies::reply::Data;
 use text::hundredths::unsigned_abs;
 ghost use mathlib.Core.Path.{_≡_};
 ghost use Prim.Native.Nat.{_<_};

@@ -1,6 +1,5 @@
 -- How long the bodies of replies are.
 use Prim.Native.Nat.{ℕ, _+_, _≤_}
-
 use mathlib.Core.Bool.{Bool, true, false, cond}
 use mathlib.Core.List.{[], _∷_}
 use native.Mathlib.Omega.{arith}

@@ -1,8 +1,6 @@
 // One typed request on one arm. The tables come first, always in the same order. A load takes them as they
 // are; a store replaces what stands under its number, and nothing else. What tables of different width share
 // takes the slot's part of a table, as a slice.
-use replies::reply::Data;
-use replies::reply::Outcome;
 use commands::request::Load;
 use commands::request::Request;
 use commands::request::Row;
@@ -18,6 +16,8 @@ use ports::place::signal_place;
 use programs::memory::Found;
 use programs::memory::load_step;
 use programs::memory::store_step;
+use replies::reply::Data;
+use replies::reply::Outcome;
 use text::hundredths::unsigned_abs;
 ghost use mathlib.Core.Path.{_≡_};
 ghost use Prim.Native.Nat.{_<_};
