@@ -14,7 +14,7 @@
 //   4 END      the last byte but one is not ETX         12 VALUE    data are outside their range
 //   5 LRC      the last byte is not the LRC             13 SETUP    a station above 99, or a nonzero one twice
 //   6 STRAY    a byte between STX and ETX not 20h..7Eh  14 INPUT    a slot above 3 or unfitted, or a port above 31
-//   7 STATION  no SP, or no station before the first
+//   7 STATION  no SP, or no station before the first    16 EMPTY    LNA of a step that was never written
 #ifndef LLAMPUT_H
 #define LLAMPUT_H
 
@@ -48,8 +48,8 @@ uint8_t llamput_setup(uint16_t timers[4][16], uint16_t registers[4][64], int32_t
                       uint8_t stations[4], const uint16_t want[4]);
 
 // Serves a slice that should be one frame: performs its request on the arm addressed, and writes the reply into reply.
-// Refusals 1 to 8 write no reply, 9 to 12 do; none changes a table or programs. Bytes of reply past the length stay as
-// they were.
+// Refusals 1 to 8 write no reply, 9 to 12 and 16 do; none changes a table or programs. Bytes of reply past the length
+// stay as they were.
 struct llamput_sent llamput_serve(uint16_t timers[4][16], uint16_t registers[4][64], int32_t x[4][100],
                                   int32_t y[4][100], int32_t z[4][100], int32_t w[4][100], uint8_t inputs[4][32],
                                   uint8_t outputs[4][32], uint8_t memory[4][16], uint16_t on[4], uint8_t *programs,
