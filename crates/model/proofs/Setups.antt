@@ -98,23 +98,23 @@ setup-judged =
 
 -- ---- what setup leaves
 
--- accepted: both checks pass
-pub accepted-number : (want m : List ℕ) → setupRefusal want m ≡ 0 → setupNumber want ≡ 0
-unfolding setupRefusal
-accepted-number want m = go (eqb (length m) size)
-  where
-    go : (t : Bool) → cond t (setupNumber want) 1 ≡ 0 → setupNumber want ≡ 0
-    go true e = e
-    go false e = absurd (omega arith)
-
--- the memory has its size
+-- accepted: the memory has its size
 accepted-size : (want m : List ℕ) → setupRefusal want m ≡ 0 → length m ≡ size
 unfolding setupRefusal
-accepted-size want m = go (eqb (length m) size) refl
+accepted-size want m = go (eqb (length m) size) refl (λ e. omega arith)
   where
-    go : (t : Bool) → eqb (length m) size ≡ t → cond t (setupNumber want) 1 ≡ 0 → length m ≡ size
-    go true h e = eqb-true _ size h
-    go false h e = absurd (omega arith)
+    go : (t : Bool) → eqb (length m) size ≡ t → {n : ℕ} → (n ≡ 0 → ⊥) → cond t (setupNumber want) n ≡ 0 → length m ≡ size
+    go true h z e = eqb-true _ size h
+    go false h z e = absurd (z e)
+
+-- check 13 passes
+pub accepted-number : (want m : List ℕ) → setupRefusal want m ≡ 0 → setupNumber want ≡ 0
+unfolding setupRefusal
+accepted-number want m = go (eqb (length m) size) (λ e. omega arith)
+  where
+    go : (t : Bool) {n : ℕ} → (n ≡ 0 → ⊥) → cond t (setupNumber want) n ≡ 0 → setupNumber want ≡ 0
+    go true h e = e
+    go false h e = absurd (h e)
 
 -- no station is above 99
 pub accepted-small : (want m : List ℕ) (k : ℕ) → setupRefusal want m ≡ 0 → getD want k 0 ≤ 99

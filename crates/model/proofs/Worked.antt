@@ -7,6 +7,9 @@ use Rattle.text.specs.Put.{xorOnto}
 use Rattle.frame.specs.Checksum.{lrcOf}
 use Rattle.frame.specs.Frame.{stationOf, readInner, readFrame, opening, closing, frameOf}
 use Rattle.frame.specs.Fields.{first, more, fields, readFields}
+use Rattle.steps.specs.Text.{charsIn, onlyChars, isText}
+use Rattle.steps.specs.Step.{upTo, textsOf, isDatum, areData, isStep, stepText}
+use Rattle.programs.specs.Memory.{charsAt, filled, stepAt}
 use Rattle.names.specs.Command.{same, nameOf, among, commandOf}
 use Rattle.numbers.specs.Ranges.{inRange, eachInRange, allInRange}
 use Rattle.data.specs.Ranges.{judge}
@@ -25,4 +28,5 @@ unfolding resultOf worked until readWhole digitsOnto digit leading shortest padd
     nameOf among commandOf inRange eachInRange allInRange judge readFields numbersText readShape requestOrRefusal readBody bodyText contentFits judgeOutcome statusText
     outcomeText judgeAsked writeRequest judgeReply writeReply stationOf readInner readFrame loaded stored zeros
     tooHigh contains repeats setupNumber setupRefusal setup scan slotOf hasRoom decide respond answer
+    charsIn onlyChars isText upTo textsOf isDatum areData isStep stepText charsAt filled stepAt
 worked-out = refl
