@@ -2,7 +2,7 @@
 // each answer. What must be printed stands in the file stdout, which was written from the documents and not from
 // a run.
 mod frames; // frames.rt: slices read as frames, and a frame written
-mod numbers; // numbers.rt: numbers read and written
+mod numerals; // numerals.rt: numbers read and written
 mod run; // run.rt: the script run line by line
 
 use crate::run::run;
@@ -86,8 +86,8 @@ fn main() {
     );
     frames::read_long();
     frames::written();
-    numbers::hundredths_written();
-    numbers::wholes_written();
+    numerals::hundredths_written();
+    numerals::wholes_written();
     run(
         &mut t,
         &mut d,
@@ -516,5 +516,343 @@ fn main() {
           R1 SNBB 255 256 383 384 -1 0 1 2\0\
           R0 LNBD -1 0 15 16\0\
           R1 SNBD -1 0 15 16 -1 0 255 256\0",
+    );
+    run(
+        &mut t,
+        &mut d,
+        &mut x,
+        &mut y,
+        &mut z,
+        &mut w,
+        &mut i,
+        &mut o,
+        &mut m,
+        &mut on,
+        &mut p[..],
+        &mut s,
+        b"# START programs (document 02, E3): typed steps with no data to four, texts of 1 to 8 characters. The last has 58 bytes.\0\
+          Ta\0\
+          Tb\0\
+          Tc\0\
+          Td\0\
+          Te\0\
+          # Steps 0, 7 and 255 asked for, and step 0 written.\0\
+          Ty\0\
+          Tt\0\
+          Tu\0\
+          Tz\0\
+          # The same read from frames. The last has 58 bytes.\0\
+          Q\x021 LNA 7\x03F\0\
+          Q\x0299 LNA 255\x03r\0\
+          Q\x021 SNA 7 MOVE\x03h\0\
+          Q\x021 SNA 7 A POINT-99\x03y\0\
+          Q\x021 SNA 7 POINT-99 A B\x03\x1b\0\
+          Q\x021 SNA 7 !~ A POINT-99 B\x03d\0\
+          Q\x0299 SNA 255 COMMANDS FIRST-11 SECOND-2 THIRD--3 FOURTH-4\x03Z\0\
+          # A step is a number, read with leading zeros and written without.\0\
+          Q\x021 LNA 0007\x03v\0\
+          Q\x021 SNA 0000 A\x03\x0f\0\
+          # Check 9: names in small letters.\0\
+          Q\x021 lna 7\x03f\0\
+          Q\x021 sna 7 MOVE\x03H\0\
+          # Check 10: LNA with no step, with a second field, with one that is no number.\0\
+          Q\x021 LNA\x03Q\0\
+          Q\x021 LNA 7 MOVE\x03w\0\
+          Q\x021 LNA A\x030\0\
+          Q\x021 LNA \x03q\0\
+          Q\x021 LNA 7 \x03f\0\
+          # Check 10: SNA with no step, with no command, with a seventh field.\0\
+          Q\x021 SNA\x03N\0\
+          Q\x021 SNA 7\x03Y\0\
+          Q\x021 SNA 7 MOVE A B A B A\x03\x09\0\
+          Q\x021 SNA 7 MOVE A B A B \x03H\0\
+          # Check 10: texts of 9 characters in each place, and empty texts.\0\
+          Q\x021 SNA 7 ABCDEFGHI\x038\0\
+          Q\x021 SNA 7 A ABCDEFGHI\x03Y\0\
+          Q\x021 SNA 7 A A ABCDEFGHI\x038\0\
+          Q\x021 SNA 7 A A A ABCDEFGHI\x03Y\0\
+          Q\x021 SNA 7 A A A A ABCDEFGHI\x038\0\
+          Q\x021 SNA 7  A\x03\x18\0\
+          Q\x021 SNA 7 \x03y\0\
+          Q\x021 SNA 7 MOVE  A\x03)\0\
+          Q\x021 SNA 7 MOVE A \x03)\0\
+          # The first of several: a step that is no number, a text before a seventh field.\0\
+          Q\x021 SNA x ABCDEFGHI\x03w\0\
+          Q\x021 SNA 7 MOVE A  A B A\x03K\0\
+          Q\x021 SNA -1\x03r\0\
+          # Check 11: step 256. Check 10 comes before.\0\
+          Q\x021 LNA 255\x03C\0\
+          Q\x021 LNA 256\x03@\0\
+          Q\x021 SNA 255 MOVE\x03m\0\
+          Q\x021 SNA 256 MOVE\x03n\0\
+          Q\x021 SNA 256 ABCDEFGHI\x03>\0\
+          Q\x021 SNA 256\x03_\0\
+          Tv\0\
+          Tw\0\
+          Tx\0\
+          # Check 12 of typed texts: a hole, the bytes 20h, 7Fh, 80h and FFh, in a command.\0\
+          Tf\0\
+          Tg\0\
+          Th\0\
+          Ti\0\
+          Tj\0\
+          Tk\0\
+          Tl\0\
+          # The same in the first datum and in the last; gaps in the data; no command.\0\
+          Tm\0\
+          Tn\0\
+          To\0\
+          Tp\0\
+          Tq\0\
+          Tr\0\
+          Ts\0\
+          # An area of 63 bytes.\0\
+          ta\0\
+          te\0\
+          ts\0\
+          tx\0\
+          # Typed replies written and read back, with no data to four. The last has 54 bytes.\0\
+          YA\0\
+          YB\0\
+          YC\0\
+          YD\0\
+          YE\0\
+          # Statuses: E16 of an LNA, 00 and 16 of an SNA.\0\
+          Y0\0\
+          Y1\0\
+          Y2\0\
+          # Check 12 of a step's texts in a reply.\0\
+          YF\0\
+          YG\0\
+          YH\0\
+          YI\0\
+          YJ\0\
+          YK\0\
+          YL\0\
+          YM\0\
+          YN\0\
+          YO\0\
+          YP\0\
+          YQ\0\
+          YR\0\
+          YS\0\
+          # Check 12: another step, step 256, a step for a timer, a timer for a step, a step for an SNA.\0\
+          Y3\0\
+          Y4\0\
+          Y5\0\
+          Y6\0\
+          Y7\0\
+          # Checks 11 and 12 of the request come before.\0\
+          Y8\0\
+          Y9\0\
+          Pv\0\
+          Px\0\
+          Ps\0\
+          Pt\0\
+          # An area of 63 bytes.\0\
+          yA\0\
+          yE\0\
+          y3\0\
+          y8\0\
+          # Replies read: statuses, and a step with leading zeros.\0\
+          Pt\x021 E16\x03P\0\
+          Pt\x021 E11\x03W\0\
+          Pa\x021 16\x03\x15\0\
+          Pt\x021 0007 MOVE A\x03E\0\
+          Pu\x0299 255 COMMANDS FIRST-11 SECOND-2 THIRD--3 FOURTH-4\x03&\0\
+          # Check 15: another station, another step, no step, a step alone, a status of an SN.\0\
+          Pt\x022 7 MOVE\x03\x17\0\
+          Pt\x021 8 MOVE\x03\x1b\0\
+          Pt\x021 MOVE A\x03b\0\
+          Pt\x021 7\x03%\0\
+          Pt\x021 16\x03\x15\0\
+          Pu\x0299 256 MOVE\x03#\0\
+          # Check 15: five data, a text of 9 characters, empty texts.\0\
+          Pt\x021 7 MOVE A B A B A\x03u\0\
+          Pt\x021 7 ABCDEFGHI\x03D\0\
+          Pt\x021 7 MOVE ABCDEFGHI\x03u\0\
+          Pt\x021 7  A\x03d\0\
+          Pt\x021 7 MOVE \x034\0\
+          Pt\x021 7 \x03\x05\0\
+          # Check 15: a step for a timer, a timer for a step, a step and E16 for an SNA.\0\
+          PI\x021 7 MOVE\x03\x14\0\
+          Pt\x021 9.99\x03\x05\0\
+          Pa\x021 7 MOVE\x03\x14\0\
+          Pa\x021 E16\x03P\0\
+          # Served: check 16 before the first write, after check 11.\0\
+          setup 1 2 3 4\0\
+          memory\0\
+          S\x021 LNA 0\x03A\0\
+          S\x021 LNA 7\x03F\0\
+          S\x021 LNA 255\x03C\0\
+          S\x021 LNA 256\x03@\0\
+          S\x021 SNA 256 MOVE\x03n\0\
+          S\x024 LNA 255\x03F\0\
+          memory\0\
+          # Steps written and read, with no data to four.\0\
+          S\x021 SNA 7 MOVE\x03h\0\
+          S\x021 LNA 7\x03F\0\
+          S\x021 SNA 0 A POINT-99\x03~\0\
+          S\x021 LNA 0\x03A\0\
+          S\x021 SNA 8 POINT-99 A B\x03\x14\0\
+          S\x021 LNA 8\x03I\0\
+          S\x021 SNA 9 !~ A POINT-99 B\x03j\0\
+          S\x021 LNA 9\x03H\0\
+          S\x021 SNA 255 COMMANDS FIRST-11 SECOND-2 THIRD--3 FOURTH-4\x03k\0\
+          S\x021 LNA 255\x03C\0\
+          memory\0\
+          # The same steps of other arms are empty. Each arm has its own, the last of slot 3 at the memory's end.\0\
+          S\x022 LNA 7\x03E\0\
+          S\x022 LNA 0\x03B\0\
+          S\x024 LNA 255\x03F\0\
+          S\x022 SNA 0 TWO\x031\0\
+          S\x023 SNA 7 THREE 3\x03&\0\
+          S\x024 SNA 255 COMMANDS FIRST-11 SECOND-2 THIRD--3 FOURTH-4\x03n\0\
+          S\x024 LNA 255\x03F\0\
+          S\x022 LNA 0\x03B\0\
+          S\x023 LNA 7\x03D\0\
+          S\x021 LNA 0\x03A\0\
+          S\x021 LNA 7\x03F\0\
+          S\x022 LNA 7\x03E\0\
+          memory\0\
+          # A shorter step over a longer: the old data are gone.\0\
+          S\x021 SNA 255 AB C\x03\x1c\0\
+          S\x021 LNA 255\x03C\0\
+          S\x021 SNA 255 D\x038\0\
+          S\x021 LNA 255\x03C\0\
+          memory\0\
+          # A refused SNA leaves the step.\0\
+          S\x023 SNA 7 ABCDEFGHI\x03:\0\
+          S\x023 SNA 7\x03[\0\
+          S\x023 SNA 7 MOVE A B A B A\x03\x0b\0\
+          S\x023 SNA 256 MOVE\x03l\0\
+          S\x029 SNA 7 MOVE\x03`\0\
+          S\x023 sna 7 MOVE\x03J\0\
+          N\x023 SNA 7 MOVE\x03j\0\
+          S\x023 LNA 7\x03D\0\
+          S\x023 LNA 7 1\x03U\0\
+          S\x023 lna 7\x03d\0\
+          N\x023 LNA 7\x03D\0\
+          memory\0\
+          # Tables and steps are apart.\0\
+          S\x023 SNT 7 1.25\x03v\0\
+          S\x023 LNA 7\x03D\0\
+          S\x023 SNA 7 THREE 33\x03\x15\0\
+          S\x023 LNT 7\x03Q\0\
+          S\x023 LNA 7\x03D\0\
+          # A refused setup leaves the memory, an accepted one clears it.\0\
+          setup 1 2 1 0\0\
+          memory\0\
+          setup 1 2 3 4\0\
+          memory\0\
+          S\x023 LNA 7\x03D\0\
+          S\x021 LNA 7\x03F\0\
+          # The longest request and the longest reply, of 58 and 54 bytes.\0\
+          setup 0 0 99 0\0\
+          S\x0299 SNA 255 COMMANDS FIRST-11 SECOND-2 THIRD--3 FOURTH-4\x03Z\0\
+          S\x0299 LNA 255\x03r\0\
+          memory\0\
+          # Check 1 of a lent memory, before check 13: one byte less, one more, none. It is untouched, and no slot is fitted.\0\
+          lent 40959 setup 1 2 3 4\0\
+          lent 40959 setup 1 1 0 0\0\
+          lent 40961 setup 1 2 3 4\0\
+          lent 40961 setup 1 1 0 0\0\
+          lent 0 setup 1 2 3 4\0\
+          lent 0 setup 1 1 0 0\0\
+          # A setup refused by check 13 leaves a lent memory untouched, an accepted one clears every byte.\0\
+          lent 40960 setup 1 1 0 0\0\
+          lent 40960 setup 100 0 0 0\0\
+          lent 40960 setup 1 2 3 4\0\
+          lent 40960 setup 0 0 0 0\0\
+          # Check 1 of a lent memory, before check 2, for every served frame.\0\
+          setup 1 2 3 4\0\
+          S\x021 SNA 7 MOVE\x03h\0\
+          S\x021 SNT 5 1.25\x03v\0\
+          lent 40959 serving =\x021 LNA 7\x03F\0\
+          lent 40959 serving =\x021 SNA 7 MOVE A\x03\x09\0\
+          lent 40959 serving =\x021 LNT 5\x03Q\0\
+          lent 40959 serving =\x021 SNT 5 9.99\x03y\0\
+          lent 40959 serving =\x029 LNA 7\x03N\0\
+          lent 40959 serving =\x021 LNA 256\x03@\0\
+          lent 40959 serving =\x021 sna 7 A\x03\x18\0\
+          lent 40959 serving =\0\
+          lent 40961 serving =\x021 LNA 7\x03F\0\
+          lent 40961 serving =\x021 SNA 7 MOVE A\x03\x09\0\
+          lent 40961 serving =\x021 LNT 5\x03Q\0\
+          lent 40961 serving =\x021 SNT 5 9.99\x03y\0\
+          lent 40961 serving =\x029 LNA 7\x03N\0\
+          lent 40961 serving =\x021 LNA 256\x03@\0\
+          lent 40961 serving =\x021 sna 7 A\x03\x18\0\
+          lent 40961 serving =\0\
+          lent 0 serving =\x021 LNA 7\x03F\0\
+          lent 0 serving =\x021 SNA 7 MOVE A\x03\x09\0\
+          lent 0 serving =\x021 LNT 5\x03Q\0\
+          lent 0 serving =\x021 SNT 5 9.99\x03y\0\
+          lent 0 serving =\x029 LNA 7\x03N\0\
+          lent 0 serving =\x021 LNA 256\x03@\0\
+          lent 0 serving =\x021 sna 7 A\x03\x18\0\
+          lent 0 serving =\0\
+          # Bytes 07h are no characters: the step is empty. Nothing above has touched the box's own memory.\0\
+          lent 40960 serving =\x021 LNA 7\x03F\0\
+          lent 40960 serving =\x021 LNT 5\x03Q\0\
+          lent 40960 serving =\0\
+          S\x021 LNA 7\x03F\0\
+          memory\0\
+          # Bytes that no call leaves: a text ends before the first that is no character.\0\
+          setup 1 2 3 4\0\
+          bytes slot 0 step 1 text 0 =AB\x1fCD\0\
+          S\x021 LNA 1\x03@\0\
+          bytes slot 0 step 2 text 0 =AB CD\0\
+          S\x021 LNA 2\x03C\0\
+          bytes slot 0 step 3 text 0 =AB\x7fCD\0\
+          S\x021 LNA 3\x03B\0\
+          bytes slot 0 step 4 text 0 =AB\x80CD\0\
+          S\x021 LNA 4\x03E\0\
+          bytes slot 0 step 5 text 0 =AB\xffCD\0\
+          S\x021 LNA 5\x03D\0\
+          bytes slot 0 step 6 text 0 =MOVE\0\
+          bytes slot 0 step 6 text 1 =A\x01B\0\
+          bytes slot 0 step 6 text 2 =!~ ~!\0\
+          S\x021 LNA 6\x03G\0\
+          # The data end before the first that is empty: no bytes, or a first byte that is no character.\0\
+          bytes slot 0 step 10 text 0 =MOVE\0\
+          bytes slot 0 step 10 text 2 =B\0\
+          S\x021 LNA 10\x03p\0\
+          bytes slot 0 step 11 text 0 =MOVE\0\
+          bytes slot 0 step 11 text 1 =\xffA\0\
+          bytes slot 0 step 11 text 2 =B\0\
+          S\x021 LNA 11\x03q\0\
+          bytes slot 0 step 12 text 0 =MOVE\0\
+          bytes slot 0 step 12 text 1 =A\0\
+          bytes slot 0 step 12 text 2 =B\0\
+          bytes slot 0 step 12 text 4 =D\0\
+          S\x021 LNA 12\x03r\0\
+          bytes slot 0 step 13 text 0 =MOVE\0\
+          bytes slot 0 step 13 text 1 =A\0\
+          bytes slot 0 step 13 text 3 =CC\0\
+          bytes slot 0 step 13 text 4 =D\0\
+          S\x021 LNA 13\x03s\0\
+          # A step whose command is empty is empty.\0\
+          bytes slot 0 step 14 text 1 =A\0\
+          S\x021 LNA 14\x03t\0\
+          bytes slot 0 step 15 text 0 = MOVE\0\
+          bytes slot 0 step 15 text 1 =A\0\
+          S\x021 LNA 15\x03u\0\
+          bytes slot 0 step 16 text 0 =\x7f\0\
+          S\x021 LNA 16\x03v\0\
+          # Eight characters and no zero, over the last step of slot 0 and the first of slot 1.\0\
+          bytes slot 0 step 255 text 0 =ABCDEFGHIJKLMNOPQRSTUVWXYZabcdefghijklmnopqrstuvwxyz\0\
+          S\x021 LNA 255\x03C\0\
+          S\x022 LNA 0\x03B\0\
+          # A step written over such bytes takes all 40.\0\
+          bytes slot 2 step 3 text 0 =\xff\xff\xff\xff\xff\xff\xff\xff\xff\xff\xff\xff\xff\xff\xff\xff\xff\xff\xff\xff\xff\xff\xff\xff\xff\xff\xff\xff\xff\xff\xff\xff\xff\xff\xff\xff\xff\xff\xff\xff\0\
+          S\x023 LNA 3\x03@\0\
+          S\x023 SNA 3 MOVE A\x03\x0f\0\
+          S\x023 LNA 3\x03@\0\
+          memory\0\
+          # The ends of the steps.\0\
+          setup 1 0 0 0\0\
+          R0 LNA -1 0 255 256\0\
+          R1 SNA -1 0 255 256 ABCDEFGHI A ABCDEFGH ABCDEFGHI\0",
     );
 }

@@ -1,9 +1,9 @@
 // The script: lines of which each ends with the byte 00h, which no slice here has. The first byte of a line says
 // what it asks for.
 use crate::frames;
-use crate::numbers;
+use crate::numerals;
 use examples_gateway::calls::call;
-use examples_harl::replies;
+use examples_harl::answers;
 use examples_harl::requests;
 use print::count;
 use print::part;
@@ -33,14 +33,14 @@ fn read(line: &[u8]) {
     let letter = byte(line, 1);
     match byte(line, 0) {
         b'F' => frames::read(rest),
-        b'H' => numbers::read_as_hundredths(rest),
-        b'W' => numbers::read_as_whole(rest),
+        b'H' => numerals::read_as_hundredths(rest),
+        b'W' => numerals::read_as_whole(rest),
         b'Q' => requests::read(rest),
-        b'P' => replies::read(letter, from(line, 2)),
+        b'P' => answers::read(letter, from(line, 2)),
         b'T' => requests::write_typed(letter),
         b't' => requests::write_narrow(letter),
-        b'Y' => replies::write_typed(letter),
-        b'y' => replies::write_narrow(letter),
+        b'Y' => answers::write_typed(letter),
+        b'y' => answers::write_narrow(letter),
         _ => {
             put(line);
             put(b"\n");
@@ -48,10 +48,10 @@ fn read(line: &[u8]) {
     }
 }
 
-// Whether a line is a call on the tables: setup, other setup, input, outputs, S, N or R.
+// Whether a line is for the tables: setup, other setup, input, outputs, lent, bytes, memory, S, N or R.
 fn is_call(line: &[u8]) -> bool {
     match byte(line, 0) {
-        b's' | b'o' | b'i' | b'S' | b'N' | b'R' => true,
+        b's' | b'o' | b'i' | b'l' | b'b' | b'm' | b'S' | b'N' | b'R' => true,
         _ => false,
     }
 }

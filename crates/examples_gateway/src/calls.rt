@@ -1,13 +1,19 @@
 // One call of each kind, and what its line says.
+use crate::memory::FILL;
+use crate::memory::put_lent;
+use crate::memory::put_memory;
+use crate::memory::write_bytes;
 use crate::ranges::try_row;
+use crate::script::Step;
+use crate::script::put_label;
+use crate::script::step_of;
+use crate::script::told;
 use crate::snapshot::put_tables;
 use crate::snapshot::put_zero;
 use crate::snapshot::snapshot;
-use crate::steps::Step;
-use crate::steps::put_label;
-use crate::steps::step_of;
 use commands::request::Port;
 use gateway::serve::serve;
+use print::front;
 use print::put;
 use print::put_two;
 use print::put_whole;
@@ -50,8 +56,8 @@ fn answer(
     put_written(sent.number, sent.length, b", no reply", area);
 }
 
-// Sets up a box in other memory, every entry of which is 7 before.
-fn set_up_other(want: [u16; 4]) {
+// Sets up a box in other tables, every entry of which is 7 before, with p for START programs.
+fn set_up_other(p: &mut [u8], want: [u16; 4]) {
     let mut t = [[7u16; 16]; 4];
     let mut d = [[7u16; 64]; 4];
     let mut x = [[7i32; 100]; 4];
@@ -62,7 +68,6 @@ fn set_up_other(want: [u16; 4]) {
     let mut o = [[7u8; 32]; 4];
     let mut m = [[7u8; 16]; 4];
     let mut on = [7u16; 4];
-    let mut p = [7u8; 40960];
     let mut s = [7u8; 4];
     put_two(setup(
         &mut t,
@@ -75,7 +80,7 @@ fn set_up_other(want: [u16; 4]) {
         &mut o,
         &mut m,
         &mut on,
-        &mut p[..],
+        p,
         &mut s,
         want,
     ));
@@ -84,6 +89,92 @@ fn set_up_other(want: [u16; 4]) {
         b", other tables",
         &snapshot(&t, &d, &x, &y, &z, &w, &i, &o, &m, &on),
     );
+}
+
+// Sets up a box in other memory.
+fn set_up(want: [u16; 4]) {
+    let mut p = [FILL; 40960];
+    set_up_other(&mut p[..], want);
+}
+
+// Sets up a box in other memory, of which the first bytes of p are for START programs.
+fn set_up_within(p: &mut [u8], size: usize, want: [u16; 4]) {
+    if p.len() < size {
+        return;
+    }
+    set_up_other(&mut p[..size], want);
+}
+
+// The same with a number of bytes that are filled.
+fn set_up_lent(size: usize, want: [u16; 4]) {
+    let mut p = [FILL; 40961];
+    set_up_within(&mut p[..], size, want);
+    put_lent(front(&p[..], size));
+}
+
+// Serves a slice with the first bytes of p for START programs.
+fn answer_within(
+    t: &mut [[u16; 16]; 4],
+    d: &mut [[u16; 64]; 4],
+    x: &mut [[i32; 100]; 4],
+    y: &mut [[i32; 100]; 4],
+    z: &mut [[i32; 100]; 4],
+    w: &mut [[i32; 100]; 4],
+    i: &mut [[u8; 32]; 4],
+    o: &mut [[u8; 32]; 4],
+    m: &mut [[u8; 16]; 4],
+    on: &mut [u16; 4],
+    p: &mut [u8],
+    size: usize,
+    s: &[u8; 4],
+    slice: &[u8],
+) {
+    let mut area = [0xaa; 64];
+    if p.len() < size {
+        return;
+    }
+    answer(
+        t,
+        d,
+        x,
+        y,
+        z,
+        w,
+        i,
+        o,
+        m,
+        on,
+        &mut p[..size],
+        s,
+        slice,
+        &mut area,
+    );
+}
+
+// The same with a number of bytes that are filled.
+fn answer_lent(
+    t: &mut [[u16; 16]; 4],
+    d: &mut [[u16; 64]; 4],
+    x: &mut [[i32; 100]; 4],
+    y: &mut [[i32; 100]; 4],
+    z: &mut [[i32; 100]; 4],
+    w: &mut [[i32; 100]; 4],
+    i: &mut [[u8; 32]; 4],
+    o: &mut [[u8; 32]; 4],
+    m: &mut [[u8; 16]; 4],
+    on: &mut [u16; 4],
+    size: usize,
+    s: &[u8; 4],
+    slice: &[u8],
+) {
+    let mut p = [FILL; 40961];
+    answer_within(t, d, x, y, z, w, i, o, m, on, &mut p[..], size, s, slice);
+    put_lent(front(&p[..], size));
+}
+
+// Where a text of a step of a slot's program stands.
+fn place(slot: u16, step: u16, text: u16) -> usize {
+    slot as usize * 10240 + step as usize * 40 + text as usize * 8
 }
 
 // Makes the call of a step; `rest` is its line from the second byte on.
@@ -108,7 +199,11 @@ fn make(
             put_two(setup(t, d, x, y, z, w, i, o, m, on, p, s, [a, b, c, e]));
             put_stations(s);
         }
-        Step::Other(a, b, c, e) => set_up_other([a, b, c, e]),
+        Step::Other(a, b, c, e) => set_up([a, b, c, e]),
+        Step::SetupLent(size, a, b, c, e) => set_up_lent(size, [a, b, c, e]),
+        Step::ServeLent(size) => answer_lent(t, d, x, y, z, w, i, o, m, on, size, s, told(rest)),
+        Step::Bytes(slot, n, text) => write_bytes(p, place(slot, n, text), told(rest)),
+        Step::Memory => put_memory(p),
         Step::Input(slot, port, byte) => put_two(input(
             t,
             d,

@@ -1,4 +1,4 @@
-// A row of document 01's table of ranges, as document 02 leaves it (E2, E6): how many data an SN of that name has,
+// A row of document 01's table of ranges, as document 02 leaves it (E2, E3, E6): how many data an SN of that name has,
 // the name, the number one below its range, the first, the last and the one above it, and for an SN the same of a
 // datum. Each is served to station 1, and a line says what was answered.
 use frame::STX;

@@ -1,5 +1,5 @@
 // The entries of every table in one list, by which two states of the tables are compared.
-use crate::steps::Step;
+use crate::script::Step;
 use print::put;
 ghost use Prim.Native.Nat.{_<_};
 

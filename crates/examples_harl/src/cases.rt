@@ -1,4 +1,5 @@
 // The typed requests of the examples, each by a letter.
+use crate::typed_steps::step_of;
 use commands::request::Load;
 use commands::request::Port;
 use commands::request::Request;
@@ -21,7 +22,29 @@ fn row(x: i32, y: i32, z: i32, w: i32) -> Case {
     store(1, Store::Row(0, Row { x, y, z, w }))
 }
 
+// Small letters: requests for steps, an SNA of step 7 with the step of that letter unless another is given.
+fn step_case(letter: u8) -> Case {
+    match letter {
+        // The longest request.
+        b'e' => store(99, Store::Step(255, step_of(letter))),
+        // Replies answer these.
+        b't' => load(1, Load::Step(7)),
+        b'u' => load(99, Load::Step(255)),
+        // Check 11 refuses these, the last of them before check 12.
+        b'v' => load(1, Load::Step(256)),
+        b'w' => store(1, Store::Step(256, step_of(b'a'))),
+        b'x' => store(1, Store::Step(256, step_of(b's'))),
+        // Step 0.
+        b'y' => load(1, Load::Step(0)),
+        b'z' => store(1, Store::Step(0, step_of(b'a'))),
+        _ => store(1, Store::Step(7, step_of(letter))),
+    }
+}
+
 pub fn case_of(letter: u8) -> Case {
+    if b'a' <= letter {
+        return step_case(letter);
+    }
     match letter {
         // P2.
         b'A' => store(2, Store::Register(63, 42)),

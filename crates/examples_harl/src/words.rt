@@ -1,4 +1,5 @@
 // Typed requests, and what replies carry, in words.
+use crate::texts::put_step;
 use commands::request::Load;
 use commands::request::Request;
 use commands::request::Row;
@@ -9,12 +10,14 @@ use print::put_signed;
 use print::put_whole;
 use replies::reply::Data;
 use replies::reply::Outcome;
+use steps::step::Step;
 
-// The values of an item: none, one, or a row.
+// The values of an item: none, one, a row, or a step's texts.
 enum Values {
     Nothing,
     One(i32),
     Row(Row),
+    Step(Step),
 }
 
 // A kind, by its place among those that put_kind has; the item's number; and its values.
@@ -26,7 +29,7 @@ struct Words {
 
 fn put_kind(k: usize) {
     put(part(
-        b"timer register row input input-port output output-port memory-bit memory-port signal port status",
+        b"timer register row input input-port output output-port memory-bit memory-port signal port status step",
         b' ',
         k,
     ));
@@ -47,6 +50,7 @@ fn put_values(values: Values) {
             put_value(row.z);
             put_value(row.w);
         }
+        Values::Step(step) => put_step(step),
     }
 }
 
@@ -77,6 +81,7 @@ fn load_words(load: Load) -> Words {
         Load::OutputPort(p) => loaded(6, p.0),
         Load::MemoryBit(s) => loaded(7, s.0),
         Load::MemoryPort(p) => loaded(8, p.0),
+        Load::Step(n) => loaded(12, n),
     }
 }
 
@@ -85,6 +90,14 @@ fn stored(kind: usize, number: u16, v: i32) -> Words {
         kind,
         number,
         values: Values::One(v),
+    }
+}
+
+fn step_words(number: u16, step: Step) -> Words {
+    Words {
+        kind: 12,
+        number,
+        values: Values::Step(step),
     }
 }
 
@@ -101,6 +114,7 @@ fn store_words(store: Store) -> Words {
         Store::OutputPort(p, v) => stored(6, p.0, v),
         Store::MemoryBit(s, v) => stored(7, s.0, v),
         Store::MemoryPort(p, v) => stored(8, p.0, v),
+        Store::Step(n, step) => step_words(n, step),
     }
 }
 
@@ -133,6 +147,7 @@ fn put_held(held: Data) {
         Data::Row(row) => put_data(2, Values::Row(row)),
         Data::Signal(v) => put_single(9, v),
         Data::Port(v) => put_single(10, v),
+        Data::Step(n, step) => put_words(step_words(n, step)),
     }
 }
 

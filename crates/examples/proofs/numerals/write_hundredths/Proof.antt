@@ -4,8 +4,8 @@ use mir.Syntax.{w32}
 use mir.Val.{toZ, ofZ}
 use Rattle.text.proofs.Decimals.{text-short}
 use borrow.Author.Needs.{needs}
-use Rattle.examples.proofs.numbers.write_hundredths.Statement.{statement}
-use Rattle.examples.proofs.numbers.write_hundredths.Tie as tie
+use Rattle.examples.proofs.numerals.write_hundredths.Statement.{statement}
+use Rattle.examples.proofs.numerals.write_hundredths.Tie as tie
 
 slice-aggregate-put-hundredths : tie.Need-slice-aggregate-put-hundredths
 slice-aggregate-put-hundredths c = search needs

@@ -1,5 +1,6 @@
 // Replies written and read back, and slices read as replies.
 use crate::cases::case_of;
+use crate::typed_steps::step_of;
 use crate::words::put_asked;
 use crate::words::put_outcome;
 use commands::request::Row;
@@ -61,8 +62,38 @@ fn status(n: u8, letter: u8) -> Reply {
     Reply(Outcome::Status(n), letter)
 }
 
+// Step n with the texts of a letter, which answers a request.
+fn step(n: u16, texts: u8, letter: u8) -> Reply {
+    data(Data::Step(n, step_of(texts)), letter)
+}
+
+// Digits and capitals: replies to requests for steps. A to S carry the texts of the small letter.
+fn step_reply(letter: u8) -> Reply {
+    match letter {
+        // The longest reply.
+        b'E' => step(255, b'e', b'u'),
+        // Statuses, of an LNA and of an SNA.
+        b'0' => status(16, b't'),
+        b'1' => status(0, b'a'),
+        b'2' => status(16, b'a'),
+        // Check 12: another step, one out of range, a step for a timer, a timer for a step, a step for an SNA.
+        b'3' => step(8, b'a', b't'),
+        b'4' => step(256, b'a', b't'),
+        b'5' => step(7, b'a', b'I'),
+        b'6' => data(Data::Timer(999), b't'),
+        b'7' => step(7, b'a', b'a'),
+        // Checks 11 and 12 of the request come before.
+        b'8' => step(256, b's', b'v'),
+        b'9' => status(0, b's'),
+        _ => step(7, letter % 32 + 96, b't'),
+    }
+}
+
 // The replies that are written, each by a letter.
 fn reply_of(letter: u8) -> Reply {
+    if letter < b'a' {
+        return step_reply(letter);
+    }
     match letter {
         // Data of each kind.
         b'a' => data(Data::Timer(999), b'I'),

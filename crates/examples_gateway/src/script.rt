@@ -16,6 +16,14 @@ pub enum Step {
     Input(u16, u16, u8),
     // "outputs on slot A": how many outputs are on.
     Outputs(u16),
+    // "lent A setup" and four stations: a new box in other memory, A bytes of it for START programs.
+    SetupLent(usize, u16, u16, u16, u16),
+    // "lent A serving =" and a slice: it is served with other A bytes for START programs.
+    ServeLent(usize),
+    // "bytes slot A step B text C =" and bytes: they are written into the START programs.
+    Bytes(u16, u16, u16),
+    // "memory": what stands in the START programs.
+    Memory,
     // "N" and a slice: it is served with a reply area of 63 bytes.
     Narrow,
     // "R" and a row of the table of ranges: a call for each end of each range, and one beyond.
@@ -36,6 +44,40 @@ fn number(line: &[u8], k: usize) -> u16 {
 
 fn byte(line: &[u8], k: usize) -> u8 {
     (number(line, k) % 256) as u8
+}
+
+// A size that word 1 of a line says: that of the START programs, one byte less, one more, or none.
+fn size(line: &[u8]) -> usize {
+    let word = part(line, b' ', 1);
+    if is_same(word, b"40959") {
+        return 40959;
+    }
+    if is_same(word, b"40960") {
+        return 40960;
+    }
+    if is_same(word, b"40961") {
+        return 40961;
+    }
+    0
+}
+
+// What stands behind the first "=".
+pub fn told(line: &[u8]) -> &[u8] {
+    part(line, b'=', 1)
+}
+
+// A line that begins with "lent".
+fn lent(line: &[u8]) -> Step {
+    if is_same(part(line, b' ', 2), b"setup") {
+        return Step::SetupLent(
+            size(line),
+            number(line, 3),
+            number(line, 4),
+            number(line, 5),
+            number(line, 6),
+        );
+    }
+    Step::ServeLent(size(line))
 }
 
 fn is_kind(line: &[u8], kind: u8) -> bool {
@@ -69,6 +111,15 @@ pub fn step_of(line: &[u8]) -> Step {
     if is_same(name, b"outputs") {
         return Step::Outputs(number(line, 3));
     }
+    if is_same(name, b"lent") {
+        return lent(line);
+    }
+    if is_same(name, b"bytes") {
+        return Step::Bytes(number(line, 2), number(line, 4), number(line, 6));
+    }
+    if is_same(name, b"memory") {
+        return Step::Memory;
+    }
     if is_kind(line, b'N') {
         return Step::Narrow;
     }
@@ -81,7 +132,14 @@ pub fn step_of(line: &[u8]) -> Step {
 // What stands before a step's answer.
 pub fn put_label(step: Step, line: &[u8]) {
     match step {
-        Step::Ranges => {}
+        Step::Ranges | Step::Memory => {}
+        Step::Bytes(_, _, _) => put_slice(line),
+        Step::ServeLent(_) => {
+            put(b"lent ");
+            put(part(line, b' ', 1));
+            put(b" serving ");
+            put_slice(told(line));
+        }
         Step::Narrow => put_serving(b"serving in 63 bytes ", line),
         Step::Serve => put_serving(b"serving ", line),
         _ => {

@@ -2,8 +2,8 @@
 use native.Mathlib.Omega.{arith}
 use Rattle.text.proofs.Digits.{shortest-short}
 use borrow.Author.Needs.{needs}
-use Rattle.examples.proofs.numbers.write_shortest.Statement.{statement}
-use Rattle.examples.proofs.numbers.write_shortest.Tie as tie
+use Rattle.examples.proofs.numerals.write_shortest.Statement.{statement}
+use Rattle.examples.proofs.numerals.write_shortest.Tie as tie
 
 slice-aggregate-put-shortest : tie.Need-slice-aggregate-put-shortest
 slice-aggregate-put-shortest c = search needs
