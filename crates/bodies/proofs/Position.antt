@@ -25,20 +25,14 @@ use Rattle.data.specs.Ranges.{inRanges, dataFit, outside, judge}
 use Rattle.data.specs.Data.{dataRanges}
 use Rattle.numbers.proofs.Where.{no-some, false-true}
 use Rattle.data.proofs.Where.{out-of-range}
-use Rattle.bodies.specs.declared.body.Judged.{Judged}
-use Rattle.bodies.specs.declared.body.Judged.the-variants.{Accepted, Refused}
-use Rattle.bodies.specs.Body.{dataShape, numbered, readShape, requestOrRefusal, shaped, afterName, readBody}
+use Rattle.bodies.specs.Body.{Judged, Accepted, Refused, dataShape, readShape, requestOrRefusal, shaped, afterName, readBody}
 use Rattle.bodies.specs.Position.{forms, ranges, afterNamePosition, bodyPosition, judgedAt}
+use Rattle.bodies.proofs.Requests.{both}
 
 -- ---- a number and data that were read
 
 abbrev pub texts : List Placed → List (List ℕ)
 texts = map (λ f. f .text)
-
-both : (o : Option ℕ) (v : Option Payload) {p : ℕ × Payload} → numbered o v ≡ some p → (o ≡ some (p .0)) × (v ≡ some (p .1))
-both (some n) (some r) e = (ap some cc, ap some cc)
-both (some n) none e = no-some e
-both none v e = no-some e
 
 -- data out of range start the fields that are left; an LN has none
 data-out : (etx : ℕ) (t : Bool) (f : Form) (fs : List Placed) {p : Payload} → dataShape t f (texts fs) ≡ some p → cond t (inRanges f p) true ≡ false → offending etx (cond t (dataRanges f) []) fs ≡ startOf etx fs

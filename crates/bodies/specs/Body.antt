@@ -14,13 +14,18 @@ use Rattle.commands.specs.declared.table.Rule.{Rule}
 use Rattle.commands.specs.declared.request.Payload.{Payload}
 use Rattle.commands.specs.declared.request.Payload.the-variants as payload
 use Rattle.commands.specs.declared.request.Parts.{Parts}
-use Rattle.bodies.specs.declared.body.Judged.{Judged}
-use Rattle.bodies.specs.declared.body.Judged.the-variants.{Accepted, Refused}
+use Rattle.commands.specs.declared.request.Row.{Row}
+use Rattle.commands.specs.declared.request.Request.{Request}
 use Rattle.names.specs.Command.{commandOf, nameOf}
 use Rattle.commands.specs.Table.{ruleOf}
 use Rattle.commands.specs.Request.{builds}
 use Rattle.data.specs.Ranges.{judge}
 use Rattle.data.specs.Data.{readData, dataText}
+
+-- what a body is as a request; a refusal carries its number, and whether it answers an SN name
+pub data Judged : Type 0 where
+  Accepted : Request → Judged
+  Refused : ℕ → Bool → Judged
 
 -- the fields after the number: data for an SN, none for an LN
 abbrev pub dataShape : Bool → Form → List (List ℕ) → Option Payload
@@ -37,6 +42,11 @@ numbered none p = none
 unfoldable pub readShape : Rule → List (List ℕ) → Option (ℕ × Payload)
 readShape rule [] = none
 readShape rule (n ∷ fs) = numbered (readWhole n) (dataShape (rule .store) (rule .form) fs)
+
+-- numbers as the data of an SN; an LN has none
+abbrev pub given : Bool → Row → Payload
+given true r = payload.Numbers r
+given false r = payload.None
 
 -- 11 NUMBER, 12 VALUE, or the request
 unfoldable pub requestOrRefusal : Command → ℕ → Payload → Judged

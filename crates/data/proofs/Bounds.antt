@@ -1,32 +1,13 @@
--- What was read as data, by the reader's answer, and what checks 11 and 12 say that passed.
+-- What checks 11 and 12 say that passed.
 use Prim.Native.Nat.{ℕ, _≤_}
-use mathlib.Core.Path.{_≡_, refl, sym, ap, _∙_}
+use mathlib.Core.Path.{_≡_, refl}
 use mathlib.Core.Bool.{Bool, true, false, cond, _||_}
-use mathlib.Core.Option.{Option, none, some}
 use native.Mathlib.Omega.{arith}
 use borrow.Author.Tests.{le-ltb, ltb-false}
 use lib.Dec.{ltb}
 use Rattle.commands.specs.declared.table.Rule.{Rule}
 use Rattle.commands.specs.declared.request.Payload.{Payload}
-use Rattle.data.specs.declared.data.DataRead.{DataRead}
-use Rattle.data.specs.declared.data.DataRead.the-variants.{Of, Malformed}
-use Rattle.data.specs.Data.{dataAt}
 use Rattle.data.specs.Ranges.{dataFit, judge}
-
--- ---- what fields were read as
-
-no-data : {A : Type 0} {p : ℕ} {d : Payload} → Malformed p ≡ Of d → A
-no-data e = let z : _≡_ {A = ℕ} 0 1 = cc in absurd (omega arith)
-
-pub data-some : (at : ℕ) (o : Option Payload) {w : DataRead} {p : Payload} → w ≡ dataAt at o → w ≡ Of p → o ≡ some p
-data-some at (some q) e d = ap some cc
-data-some at none e d = no-data (sym e ∙ d)
-
-pub data-none : (at : ℕ) (o : Option Payload) {w : DataRead} {p : ℕ} → w ≡ dataAt at o → w ≡ Malformed p → (o ≡ none) × (p ≡ at)
-data-none at (some q) e d = no-data (sym d ∙ e)
-data-none at none e d = (refl, cc)
-
--- ---- checks 11 and 12 passed
 
 pub record Passed (rule : Rule) (n : ℕ) (p : Payload) : Type 0 where
   pub low : rule .first ≤ n

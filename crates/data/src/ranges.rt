@@ -7,7 +7,7 @@ use numbers::ranges::all_in_range;
 use steps::step::Step;
 use steps::step::is_step;
 ghost use mathlib.Core.Path.{_≡_};
-ghost use Rattle.data.specs.Ranges.{rowInRange, stepInRange, inRanges, judge};
+ghost use Rattle.data.specs.Ranges.{rowInRange, stepInRange, inRanges, outside, judge};
 
 fn row_in_range(form: Form, row: Row) -> bool
     ensures { λ r. ⌜ r ≡ rowInRange form row ⌝ }
@@ -38,14 +38,21 @@ pub fn in_ranges(form: Form, payload: Payload) -> bool
     }
 }
 
+// Check 11: whether a number is outside its command's range.
+pub fn is_outside(rule: Rule, number: u16) -> bool
+    ensures { λ r. ⌜ r ≡ outside rule number ⌝ }
+{
+    if number < rule.first {
+        return true;
+    }
+    rule.last < number
+}
+
 // Checks 11 and 12 of a number and of data, in that order; 0 where both pass.
 pub fn judge_parts(rule: Rule, number: u16, payload: Payload) -> u8
     ensures { λ r. ⌜ r ≡ judge rule number payload ⌝ }
 {
-    if number < rule.first {
-        return 11;
-    }
-    if rule.last < number {
+    if is_outside(rule, number) {
         return 11;
     }
     if rule.store {

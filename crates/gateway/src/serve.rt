@@ -1,5 +1,6 @@
 // Serving: a slice judged, performed on the arm that it addresses, and answered.
-use bodies::body::Judged;
+use bodies::body::Parsed;
+use bodies::body::Verdict;
 use bodies::body::read_body;
 use frame::reader::read_frame;
 use frame::writer::close_frame;
@@ -7,10 +8,12 @@ use frame::writer::open_frame;
 use harl::message::Sent;
 use harl::message::refusal;
 use programs::memory::SIZE;
+use programs::memory::store_step;
 use replies::reply::Outcome;
 use replies::reply::number_in;
 use replies::reply::put_performed;
 use replies::reply::put_refusal;
+use steps::step::step_of;
 use tables::perform::perform;
 ghost use mathlib.Core.Path.{_≡_};
 ghost use Prim.Native.Nat.{_≤_, _<_};
@@ -18,8 +21,10 @@ ghost use lib.ListN.{length};
 ghost use Rattle.text.specs.Put.{PutAt};
 ghost use Rattle.frame.specs.Frame.{readFrame, frameOf};
 ghost use Rattle.replies.specs.Reply.{performedText, refusalText};
+ghost use Rattle.bodies.specs.Position.{requestWith};
+ghost use Rattle.harl.specs.Message.{judgeRequest};
 ghost use Rattle.programs.specs.Memory.{size};
-ghost use Rattle.tables.specs.Tables.{Tables, tables};
+ghost use Rattle.tables.specs.Tables.{Tables, tables, Performed};
 ghost use Rattle.model.specs.Box.{box, hasRoom};
 ghost use Rattle.gateway.specs.Entries.{Served};
 ghost use Rattle.gateway.specs.Serving.{BodyServed, foundIn};
@@ -87,6 +92,52 @@ fn put_refused(reply: &mut [u8], station: u8, n: u8, store: bool) -> usize
     close_frame(reply, end)
 }
 
+// Performs an accepted body on the tables of slot's arm. A step is stored from the array in which its texts were read.
+fn perform_parsed(
+    timers: &mut [[u16; 16]; 4],
+    registers: &mut [[u16; 64]; 4],
+    x: &mut [[i32; 100]; 4],
+    y: &mut [[i32; 100]; 4],
+    z: &mut [[i32; 100]; 4],
+    w: &mut [[i32; 100]; 4],
+    inputs: &mut [[u8; 32]; 4],
+    outputs: &mut [[u8; 32]; 4],
+    memory: &mut [[u8; 16]; 4],
+    on: &mut [u16; 4],
+    programs: &mut [u8],
+    slot: usize,
+    texts: [u64; 5],
+    parsed: Parsed,
+) -> Outcome
+    ghost { Tables }
+    requires { λ t. ⌜ tables (now timers) (now registers) (now x) (now y) (now z) (now w) (now inputs) (now outputs) (now memory) (now on) (now programs) ≡ t ⌝ }
+    requires { λ t. ⌜ (slot < 4) × (judgeRequest (requestWith texts parsed) ≡ 0) ⌝ }
+    requires { λ t. ⌜ length (now programs) ≡ size ⌝ }
+    ensures { λ t r. ⌜ Performed slot (requestWith texts parsed) t (tables (now (timers .exit)) (now (registers .exit)) (now (x .exit)) (now (y .exit)) (now (z .exit)) (now (w .exit)) (now (inputs .exit)) (now (outputs .exit)) (now (memory .exit)) (now (on .exit)) (now (programs .exit))) r ⌝ }
+{
+    match parsed {
+        Parsed::Request(request) => perform(
+            timers,
+            registers,
+            x,
+            y,
+            z,
+            w,
+            inputs,
+            outputs,
+            memory,
+            on,
+            programs,
+            slot,
+            request,
+        ),
+        Parsed::Step(n) => {
+            store_step(programs, slot, n, step_of(texts));
+            Outcome::Status(0)
+        }
+    }
+}
+
 // Serves the body of a slice that is addressed to slot's arm: checks 9 to 12, then the request.
 fn serve_body(
     timers: &mut [[u16; 16]; 4],
@@ -113,11 +164,12 @@ fn serve_body(
     requires { λ t. ⌜ (readFrame (now slice) .number ≡ 0) × (now body ≡ readFrame (now slice) .body) ⌝ }
     ensures { λ t r. ⌜ BodyServed slot station (now (slice .entry)) t (now (reply .entry)) r (tables (now (timers .exit)) (now (registers .exit)) (now (x .exit)) (now (y .exit)) (now (z .exit)) (now (w .exit)) (now (inputs .exit)) (now (outputs .exit)) (now (memory .exit)) (now (on .exit)) (now (programs .exit))) (now (reply .exit)) ⌝ }
 {
-    let read = read_body(slice, body);
-    let judged = read.judged;
-    match judged {
-        Judged::Accepted(request) => {
-            let outcome = perform(
+    let mut texts: [u64; 5] = [0; 5];
+    let read = read_body(slice, body, &mut texts);
+    let verdict = read.verdict;
+    match verdict {
+        Verdict::Accepted(parsed) => {
+            let outcome = perform_parsed(
                 timers,
                 registers,
                 x,
@@ -130,7 +182,8 @@ fn serve_body(
                 on,
                 programs,
                 slot,
-                request,
+                texts,
+                parsed,
             );
             let length = put_reply(reply, station, outcome);
             Sent {
@@ -139,7 +192,7 @@ fn serve_body(
                 position: 0,
             }
         }
-        Judged::Refused(n, store) => {
+        Verdict::Refused(n, store) => {
             let length = put_refused(reply, station, n, store);
             Sent {
                 number: n,

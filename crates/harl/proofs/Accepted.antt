@@ -21,7 +21,7 @@ use Rattle.commands.specs.declared.request.Request.{Request}
 use Rattle.names.specs.Command.{commandOf}
 use Rattle.commands.specs.Table.{loads, stores, ruleOf}
 use Rattle.commands.specs.Request.{one, rowIn, stepIn, builds}
-use Rattle.bodies.specs.declared.body.Judged.the-variants.{Accepted, Refused}
+use Rattle.bodies.specs.Body.{Accepted, Refused}
 use Rattle.data.specs.Ranges.{inRanges, judge}
 use Rattle.bodies.specs.Body.{readShape, requestOrRefusal, shaped, afterName, ofFields, readBody}
 use Rattle.harl.specs.Message.{judgeRequest}

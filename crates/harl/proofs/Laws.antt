@@ -13,15 +13,17 @@ use Rattle.commands.specs.declared.table.Kind.the-variants.{Timer, Register, Ro
 use Rattle.commands.specs.declared.table.Form.{Form}
 use Rattle.commands.specs.declared.table.Form.the-variants.{Numbers, Texts}
 use Rattle.commands.specs.declared.table.Rule.{Rule}
-use Rattle.bodies.specs.declared.body.Judged.{Judged}
-use Rattle.bodies.specs.declared.body.Judged.the-variants as judged
+use Rattle.bodies.specs.Body.{Judged}
+use Rattle.bodies.specs.Body as judged
+use Rattle.bodies.specs.declared.body.Verdict.{Verdict}
+use Rattle.bodies.specs.declared.body.Verdict.the-variants as verdict
 use Rattle.bodies.specs.declared.body.JudgedBody.{JudgedBody}
 use Rattle.replies.specs.declared.reply.Content.{Content}
 use Rattle.replies.specs.declared.reply.Data.{Data}
 use Rattle.replies.specs.declared.reply.Outcome.the-variants as outcome
 use Rattle.data.specs.Ranges.{inRanges}
 use Rattle.bodies.specs.Body.{readBody}
-use Rattle.bodies.specs.Position.{bodyPosition, judgedAt}
+use Rattle.bodies.specs.Position.{bodyPosition, judgedAt, verdictWith, judgedWith}
 use Rattle.replies.specs.Reply.{contentOf, codeOf, numberFits, contentFits, judgeOutcome}
 use Rattle.harl.specs.declared.message.Sent.{Sent}
 use Rattle.harl.specs.Message.{unsent, Wrote}
@@ -79,16 +81,16 @@ fitting rule asked d = go (rule .store) (eqb (codeOf (contentOf d .form)) (codeO
 
 -- ---- what the reader of a body answers
 
-same-judged : (p : ℕ → ℕ) (v : Judged) → judgedAt p v .judged ≡ v
+same-judged : (p : ℕ → ℕ) (v : Judged) → judgedAt p v .0 ≡ v
 same-judged p (judged.Accepted r) = refl
 same-judged p (judged.Refused n store) = refl
 
-module _ (slice : List ℕ) {j : JudgedBody} (e : j ≡ judgedAt (bodyPosition slice) (readBody (readFrame slice .body))) where
-  pub body-judged : {v : Judged} → j .judged ≡ v → readBody (readFrame slice .body) ≡ v
-  body-judged g = sym (ap (λ (x : JudgedBody). x .judged) e ∙ same-judged _ _) ∙ g
+module _ (slice ts : List ℕ) (j : JudgedBody) (e : judgedWith ts j ≡ judgedAt (bodyPosition slice) (readBody (readFrame slice .body))) where
+  pub body-judged : {v : Verdict} → j .verdict ≡ v → readBody (readFrame slice .body) ≡ verdictWith ts v
+  body-judged g = sym (ap (λ (x : Judged × ℕ). x .0) e ∙ same-judged _ _) ∙ ap (verdictWith ts) g
 
-  pub body-refused : {n : ℕ} {store : Bool} → j .judged ≡ judged.Refused n store → j .position ≡ bodyPosition slice n
-  body-refused g = ap (λ (x : JudgedBody). x .position) e ∙ ap (λ (v : Judged). judgedAt (bodyPosition slice) v .position) (body-judged g)
+  pub body-refused : {n : ℕ} {store : Bool} → j .verdict ≡ verdict.Refused n store → j .position ≡ bodyPosition slice n
+  body-refused g = ap (λ (x : Judged × ℕ). x .1) e ∙ ap (λ (v : Judged). judgedAt (bodyPosition slice) v .1) (body-judged g)
 
 -- ---- what a writer answers
 

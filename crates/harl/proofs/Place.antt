@@ -13,8 +13,8 @@ use Rattle.commands.specs.Request.{partsOf}
 use Rattle.numbers.proofs.Where.{false-true}
 use Rattle.replies.specs.declared.reply.Carried.{Carried}
 use Rattle.replies.specs.declared.reply.Carried.the-variants as carried
-use Rattle.bodies.specs.declared.body.Judged.{Judged}
-use Rattle.bodies.specs.declared.body.Judged.the-variants as judged
+use Rattle.bodies.specs.Body.{Judged}
+use Rattle.bodies.specs.Body as judged
 use Rattle.bodies.specs.Body.{readBody}
 use Rattle.bodies.specs.Position.{bodyPosition}
 use Rattle.replies.specs.Reply.{readOutcome}

@@ -28,7 +28,7 @@ use Rattle.commands.specs.declared.request.Store.the-variants as store
 use Rattle.commands.specs.declared.request.Request.{Request}
 use Rattle.commands.specs.declared.request.Request.the-variants as request
 use Rattle.commands.specs.declared.request.Parts.{Parts}
-use Rattle.bodies.specs.declared.body.Judged.the-variants.{Accepted}
+use Rattle.bodies.specs.Body.{Accepted}
 use Rattle.names.specs.Command.{nameOf}
 use Rattle.commands.specs.Table.{ruleOf}
 use Rattle.names.proofs.Names.{name, name-solid}

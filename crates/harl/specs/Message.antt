@@ -21,8 +21,8 @@ use Rattle.harl.specs.declared.message.Sent.{Sent}
 use Rattle.commands.specs.Table.{ruleOf}
 use Rattle.commands.specs.Request.{partsOf}
 use Rattle.data.specs.Ranges.{judge}
-use Rattle.bodies.specs.declared.body.Judged.{Judged}
-use Rattle.bodies.specs.declared.body.Judged.the-variants as judged
+use Rattle.bodies.specs.Body.{Judged}
+use Rattle.bodies.specs.Body as judged
 use Rattle.bodies.specs.Body.{readBody, bodyText}
 use Rattle.bodies.specs.Position.{bodyPosition}
 use Rattle.replies.specs.Reply.{judgeOutcome, outcomeText, readOutcome}

@@ -1,8 +1,9 @@
 // The four entries: a request read and written, a reply written and read. None has a `requires`. A refused
 // reader hands back its number and position alone; a refused writer reports length 0 and leaves the area untouched.
-use bodies::body::Judged;
+use bodies::body::Verdict;
 use bodies::body::put_body;
 use bodies::body::read_body;
+use bodies::body::request_with;
 use commands::request::Request;
 use commands::request::parts_of;
 use commands::table::rule_of;
@@ -80,11 +81,12 @@ pub fn read_request(slice: &[u8]) -> Asked
     if number != 0 {
         return Asked::Refused(number, position);
     }
-    let read = read_body(slice, body);
-    let judged = read.judged;
-    match judged {
-        Judged::Accepted(request) => Asked::Accepted(station, request),
-        Judged::Refused(n, _) => Asked::Refused(n, read.position),
+    let mut texts: [u64; 5] = [0; 5];
+    let read = read_body(slice, body, &mut texts);
+    let verdict = read.verdict;
+    match verdict {
+        Verdict::Accepted(parsed) => Asked::Accepted(station, request_with(texts, parsed)),
+        Verdict::Refused(n, _) => Asked::Refused(n, read.position),
     }
 }
 

@@ -13,8 +13,8 @@ use Rattle.commands.specs.declared.request.Load.the-variants as load
 use Rattle.commands.specs.declared.request.Store.{Store}
 use Rattle.commands.specs.declared.request.Store.the-variants as store
 use Rattle.commands.specs.declared.request.Request.the-variants as request
-use Rattle.bodies.specs.declared.body.Judged.{Judged}
-use Rattle.bodies.specs.declared.body.Judged.the-variants as judged
+use Rattle.bodies.specs.Body.{Judged}
+use Rattle.bodies.specs.Body as judged
 use Rattle.bodies.specs.Body.{readBody}
 use Rattle.replies.specs.Reply.{stepOutcome, statusText}
 use Rattle.harl.specs.Message.{judgeRequest}

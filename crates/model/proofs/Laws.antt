@@ -21,8 +21,8 @@ use Rattle.commands.specs.declared.request.Payload.the-variants as payload
 use Rattle.commands.specs.declared.request.Request.{Request}
 use Rattle.commands.specs.Table.{loads, stores}
 use Rattle.commands.specs.Request.{one, partsOf}
-use Rattle.bodies.specs.declared.body.Judged.{Judged}
-use Rattle.bodies.specs.declared.body.Judged.the-variants as judged
+use Rattle.bodies.specs.Body.{Judged}
+use Rattle.bodies.specs.Body as judged
 use Rattle.replies.specs.declared.reply.Data.{Data}
 use Rattle.replies.specs.declared.reply.Outcome.{Outcome}
 use Rattle.replies.specs.declared.reply.Outcome.the-variants as outcome

@@ -17,8 +17,8 @@ use Rattle.commands.specs.declared.request.Store.{Store}
 use Rattle.commands.specs.declared.request.Store.the-variants as store
 use Rattle.commands.specs.declared.request.Request.the-variants as request
 use Rattle.commands.specs.Table.{ruleOf}
-use Rattle.bodies.specs.declared.body.Judged.{Judged}
-use Rattle.bodies.specs.declared.body.Judged.the-variants as judged
+use Rattle.bodies.specs.Body.{Judged}
+use Rattle.bodies.specs.Body as judged
 use Rattle.numbers.specs.Ranges.{inRange}
 use Rattle.bodies.specs.Body.{readBody}
 use Rattle.harl.specs.Message.{judgeRequest}

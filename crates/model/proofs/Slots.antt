@@ -10,8 +10,8 @@ use borrow.Author.Tests.{ltb-false, leb-true, eqb-true, eqb-false, not-true, le-
 use lib.ListN.{getD, replicate, getD-replicate}
 use lib.Dec.{ltb, leb, eqb}
 use Rattle.frame.specs.Frame.{Reading, readFrame}
-use Rattle.bodies.specs.declared.body.Judged.{Judged}
-use Rattle.bodies.specs.declared.body.Judged.the-variants as judged
+use Rattle.bodies.specs.Body.{Judged}
+use Rattle.bodies.specs.Body as judged
 use Rattle.bodies.specs.Body.{readBody}
 use Rattle.numbers.proofs.Bounds.{and-left, and-right}
 use Rattle.model.specs.Call.{Call, serve, input, outputsOn}

@@ -22,8 +22,8 @@ use Rattle.commands.specs.Request.{rowOf}
 use Rattle.replies.specs.declared.reply.Outcome.{Outcome}
 use Rattle.replies.specs.declared.reply.Data.the-variants as held
 use Rattle.replies.specs.declared.reply.Outcome.the-variants.{Data, Status}
-use Rattle.bodies.specs.declared.body.Judged.{Judged}
-use Rattle.bodies.specs.declared.body.Judged.the-variants.{Refused}
+use Rattle.bodies.specs.Body.{Judged}
+use Rattle.bodies.specs.Body.{Refused}
 use Rattle.bodies.specs.Body.{readBody}
 use Rattle.harl.specs.Message.{writeRequest, writeReply}
 use Rattle.ports.specs.Place.{placeOf}

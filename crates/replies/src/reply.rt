@@ -12,6 +12,7 @@ use data::data::read_data;
 use data::ranges::in_ranges;
 use names::command::is_same;
 use steps::step::Step;
+use steps::step::step_of;
 use text::put::Cursor;
 use text::put::put_byte;
 use text::put::put_bytes;
@@ -22,6 +23,7 @@ use text::whole::read_digits;
 use text::whole::read_whole;
 ghost use mathlib.Core.Path.{_≡_};
 ghost use Prim.Native.Nat.{_≤_, _+_};
+ghost use mathlib.Core.Option.{some};
 ghost use lib.ListN.{length, drop};
 ghost use Rattle.text.specs.Put.{Put};
 ghost use Rattle.frame.specs.Fields.{fields};
@@ -296,19 +298,26 @@ fn read_status(s: &[u8]) -> Carried
     Carried::Outcome(Outcome::Status(digits.value as u8))
 }
 
+// What a reply carries whose data were read: they must be in range.
+fn held_in(form: Form, asked: u16, payload: Payload) -> Carried
+    ensures { λ r. ⌜ r ≡ asData form asked (some payload) ⌝ }
+{
+    if in_ranges(form, payload) {
+        return Carried::Outcome(Outcome::Data(data_of(form, asked, payload)));
+    }
+    Carried::Nothing
+}
+
 // Reads the fields of a body from index `from` on as data in range.
 fn read_content(form: Form, asked: u16, body: &[u8], from: usize) -> Carried
     requires { ⌜ from ≤ length (now body) ⌝ }
     ensures { λ r. ⌜ r ≡ asData form asked (readData form (fields (drop from (now (body .entry))))) ⌝ }
 {
-    let read = read_data(form, body, from);
+    let mut texts: [u64; 5] = [0; 5];
+    let read = read_data(form, body, from, &mut texts);
     match read {
-        DataRead::Of(payload) => {
-            if in_ranges(form, payload) {
-                return Carried::Outcome(Outcome::Data(data_of(form, asked, payload)));
-            }
-            Carried::Nothing
-        }
+        DataRead::Numbers(row) => held_in(form, asked, Payload::Numbers(row)),
+        DataRead::Texts => held_in(form, asked, Payload::Texts(step_of(texts))),
         DataRead::Malformed(_) => Carried::Nothing,
     }
 }

@@ -29,7 +29,7 @@ pub enum StepRead {
 }
 
 // The texts of a step, packed, in their order.
-fn packed_of(step: Step) -> [u64; 5]
+pub fn packed_of(step: Step) -> [u64; 5]
     ensures { λ r. ⌜ r ≡ packed step ⌝ }
 {
     [

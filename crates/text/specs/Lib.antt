@@ -1,3 +1,4 @@
+pub mod Read
 pub mod Scan
 pub mod Put
 pub mod Whole

@@ -109,11 +109,17 @@ fn put_leading(area: &mut [u8], to: Cursor, unit: u16, v: u16) -> Cursor
     put_digit(area, to, unit, v)
 }
 
-// Writes v with no leading zero; of 10000 or more, the last 4 digits.
+// Writes v with no leading zero; of 10000 or more, the last 4 digits. Stations and most numbers have one digit or two.
 pub fn put_shortest(area: &mut [u8], to: Cursor, v: u16) -> Cursor
     requires { ⌜ to .at + length (shortest v) ≤ length (now area) ⌝ }
     ensures { λ r. ⌜ Put (now (area .entry)) to (shortest v) r (now (area .exit)) ⌝ }
 {
+    if v < 10 {
+        return put_digit(area, to, 1, v);
+    }
+    if v < 100 {
+        return put_two_digits(area, to, v);
+    }
     let hundreds = put_leading(area, to, 1000, v);
     let tens = put_leading(area, hundreds, 100, v);
     let ones = put_leading(area, tens, 10, v);

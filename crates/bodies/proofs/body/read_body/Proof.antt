@@ -35,11 +35,11 @@ slice-aggregate-read-fields : tie.Need-slice-aggregate-read-fields
 slice-aggregate-read-fields c = sym (before-etx (c .before .before .before .args .slice .now))
 
 read-fields-requires : tie.Need-read-fields-requires
-read-fields-requires c κs = omega (arith, before-etx (c .before .before .before .args .slice .now))
+read-fields-requires c κs = omega (arith, before-etx (c .before .before .before .before .args .slice .now))
 
 returns : tie.Need-returns
 returns c =
-    let s = c .before .before .before .before in
+    let s = c .before .before .before .before .before in
     c .read-fields .ensures ∙ judged-is (s .args .slice .now) (s .pre .0) (ap length (s .pre .1))
 
 pub read-body-spec : {M : Type 1} → statement M

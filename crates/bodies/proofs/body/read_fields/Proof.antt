@@ -2,49 +2,51 @@
 -- `start` where the function starts.
 use Prim.Native.Nat.{ℕ, _+_, _≤_}
 use mathlib.Core.Path.{_≡_, refl, sym, ap, _∙_}
-use mathlib.Core.Bool.{false, cond}
+use mathlib.Core.Bool.{true, false, cond}
 use mathlib.Core.List.{List, [], _∷_}
 use mathlib.Core.Option.{Option, none, some}
 use native.Mathlib.Omega.{arith}
 use borrow.Author.Needs.{needs}
 use lib.Dec.{eqb}
 use lib.ListN.{length, drop}
+use Rattle.text.specs.Read.{value, wrong, readAt}
 use Rattle.text.specs.Scan.{fieldAt, endAt}
+use Rattle.text.proofs.Read.{was-read, was-wrong}
 use Rattle.text.proofs.Laws.{rest}
 use Rattle.frame.specs.Fields.{Placed, placedMore, placed, startOf, offending}
 use Rattle.frame.proofs.Laws.{first-is}
 use Rattle.frame.proofs.Placed.{placed-texts, placed-only, placed-next, offending-lack}
 use Rattle.names.specs.declared.command.Command.{Command}
+use Rattle.names.specs.declared.command.Command.the-variants.{Sna}
 use Rattle.names.specs.declared.command.Named.{Named}
 use Rattle.names.specs.declared.command.Named.the-variants.{Is, Unknown}
 use Rattle.commands.specs.declared.table.Rule.{Rule}
 use Rattle.commands.specs.declared.request.Payload.{Payload}
 use Rattle.names.specs.Command.{commandOf}
 use Rattle.commands.specs.Table.{ruleOf}
-use Rattle.bodies.specs.declared.body.Shape.{Shape}
-use Rattle.bodies.specs.declared.body.Shape.the-variants as shape
-use Rattle.bodies.specs.declared.body.JudgedBody.{JudgedBody}
-use Rattle.bodies.specs.Body.{readShape, requestOrRefusal, shaped, afterName, ofFields, readBody}
-use Rattle.bodies.specs.Position.{forms, ranges, afterNamePosition, fieldsPosition, shapeAt, shapeIn, refusedAt, judgedAt}
+use Rattle.commands.specs.declared.request.Payload.the-variants as payload
+use Rattle.steps.specs.declared.step.Step.{Step}
+use Rattle.steps.specs.Step.{isStep}
+use Rattle.data.specs.Ranges.{dataFit}
+use Rattle.numbers.proofs.Where.{no-some, false-true}
+use Rattle.bodies.specs.Body.{Judged, readShape, requestOrRefusal, shaped, afterName, ofFields, readBody}
+use Rattle.bodies.specs.Position.{forms, ranges, afterNamePosition, fieldsPosition, started, shapeIn, refusedAt, judgedAt}
+use Rattle.bodies.proofs.Requests.{reads-texts}
 use Rattle.bodies.proofs.Position.{texts, number-at, data-at, same-place}
 use Rattle.bodies.proofs.body.read_fields.Statement.{statement}
 use Rattle.bodies.proofs.body.read_fields.Tie as tie
 
--- ---- what the fields after the name were read as, by the answer for them
+-- ---- what the fields after the name were read as
 
-no-shape : {A : Type 0} {p n d : ℕ} {r : Payload} → shape.Malformed p ≡ shape.Of n r d → A
-no-shape e = let z : _≡_ {A = ℕ} 0 1 = cc in absurd (omega arith)
+start-some : (start : ℕ) (o : Option (ℕ × Payload)) {n d : ℕ} {p : Payload} → started start o ≡ some (n, (p, d)) → (o ≡ some (n, p)) × (d ≡ start)
+start-some start (some q) {n} {d} {p} e =
+    let w : _≡_ {A = ℕ × (Payload × ℕ)} (q .0, (q .1, start)) (n, (p, d)) = cc in
+    (ap (λ (x : ℕ × (Payload × ℕ)). some (x .0, x .1 .0)) w, sym (ap (λ (x : ℕ × (Payload × ℕ)). x .1 .1) w))
+start-some start none e = no-some e
 
-shape-some : (a b : ℕ) (o : Option (ℕ × Payload)) {f : Shape} {n d : ℕ} {r : Payload} → f ≡ shapeAt a b o → f ≡ shape.Of n r d → (o ≡ some (n, r)) × (d ≡ a)
-shape-some a b (some p) {f} {n} {d} {r} e q =
-    let number : p .0 ≡ n = cc in
-    let row : p .1 ≡ r = cc in
-    (rw (← number, ← row), cc)
-shape-some a b none e q = no-shape (sym e ∙ q)
-
-shape-none : (a b : ℕ) (o : Option (ℕ × Payload)) {f : Shape} {p : ℕ} → f ≡ shapeAt a b o → f ≡ shape.Malformed p → (o ≡ none) × (p ≡ b)
-shape-none a b (some p) e q = no-shape (sym q ∙ e)
-shape-none a b none e q = (refl, cc)
+start-none : (start : ℕ) (o : Option (ℕ × Payload)) → started start o ≡ none → o ≡ none
+start-none start (some q) e = no-some (sym e)
+start-none start none e = refl
 
 -- ---- the fields that stand at index i
 
@@ -53,7 +55,7 @@ module _ (s : List ℕ) (i : ℕ) where
   here = record { position = i; text = fieldAt s i }
 
   -- what is promised of them
-  abbrev promised : JudgedBody
+  abbrev promised : Judged × ℕ
   promised = judgedAt (fieldsPosition (length s) (placed i (drop i s))) (readBody (drop i s))
 
   answer-is : (fs : List Placed) → placed i (drop i s) ≡ fs → promised ≡ judgedAt (fieldsPosition (length s) fs) (ofFields (texts fs))
@@ -61,7 +63,7 @@ module _ (s : List ℕ) (i : ℕ) where
   answer-is fs e = rw (← placed-texts i (drop i s), e)
 
   -- by the name, and the fields after it
-  abbrev named : List Placed → Named → JudgedBody
+  abbrev named : List Placed → Named → Judged × ℕ
   named fs c = judgedAt (λ n. cond (eqb n 9) i (afterNamePosition (length s) c fs n)) (afterName c (texts fs))
 
   unknown : commandOf (fieldAt s i) ≡ Unknown → refusedAt 9 false i ≡ promised
@@ -85,26 +87,40 @@ module _ (s : List ℕ) (i : ℕ) where
       unfolding here after place
       followed = answer-is (here ∷ after) (rw q (placed-next s i h (λ d. z (q ∙ d)))) ∙ ap (named after) w
 
-      module _ {f : Shape} (a : f ≡ shapeIn rule s (e + 1)) where
-        shape-is : f ≡ shapeAt (startOf (length s) (drop 1 after)) (offending (length s) (forms (ruleOf k)) after) (readShape (ruleOf k) (texts after))
-        unfolding after
-        shape-is = rw (u, ← placed-texts (e + 1) (drop (e + 1) s)) at a
+      shape-is : shapeIn rule s (e + 1) ≡ readAt (offending (length s) (forms (ruleOf k)) after) (started (startOf (length s) (drop 1 after)) (readShape (ruleOf k) (texts after)))
+      unfolding after
+      shape-is = rw (u, ← placed-texts (e + 1) (drop (e + 1) s))
 
-        misshapen : {p : ℕ} → f ≡ shape.Malformed p → refusedAt 10 (rule .store) p ≡ promised
-        unfolding place
-        misshapen {p} d =
-            let o = shape-none _ _ (readShape (ruleOf k) (texts after)) shape-is d in
-            ap (λ (x : Rule). refusedAt 10 (x .store) p) u ∙ ap (λ (x : ℕ). refusedAt 10 (ruleOf k .store) x) (o .1) ∙ sym (followed ∙ ap (λ x. judgedAt place (shaped k x)) (o .0))
+      misshapen : {p : ℕ} → wrong p ≡ shapeIn rule s (e + 1) → refusedAt 10 (rule .store) p ≡ promised
+      unfolding place
+      misshapen {p} d =
+          let o = was-wrong _ (started (startOf (length s) (drop 1 after)) (readShape (ruleOf k) (texts after))) (d ∙ shape-is) in
+          ap (λ (x : Rule). refusedAt 10 (x .store) p) u ∙ ap (λ (x : ℕ). refusedAt 10 (ruleOf k .store) x) (o .1) ∙ sym (followed ∙ ap (λ x. judgedAt place (shaped k x)) (start-none _ (readShape (ruleOf k) (texts after)) (o .0)))
 
-        judged : {n d : ℕ} {r : Payload} → f ≡ shape.Of n r d → {v : JudgedBody} → v ≡ judgedAt (λ m. cond (eqb m 11) (e + 1) d) (requestOrRefusal k n r) → v ≡ promised
+      module _ {n d : ℕ} {p : Payload} (x : value (n, (p, d)) ≡ shapeIn rule s (e + 1)) where
+        was-shaped : (readShape (ruleOf k) (texts after) ≡ some (n, p)) × (d ≡ startOf (length s) (drop 1 after))
+        was-shaped = start-some _ (readShape (ruleOf k) (texts after)) (was-read _ (started (startOf (length s) (drop 1 after)) (readShape (ruleOf k) (texts after))) (x ∙ shape-is))
+
+        -- refused with 11 at the number, and with 12 at the data
+        judged : (at : ℕ → ℕ) → at 11 ≡ e + 1 → (dataFit (ruleOf k) p ≡ false → at 12 ≡ d) → {v : Judged × ℕ} → v ≡ judgedAt at (requestOrRefusal k n p) → v ≡ promised
         unfolding place after placed
-        judged {n} {d} {r} x y =
-            let o = shape-some _ _ (readShape (ruleOf k) (texts after)) shape-is x in
+        judged at a b y =
+            let o = was-shaped in
             y
-            ∙ same-place k n r (λ m. cond (eqb m 11) (e + 1) d) place
-            (λ t. sym (number-at (length s) (ruleOf k) after (o .0) t))
-            (λ t j. o .1 ∙ sym (data-at (length s) (ruleOf k) after (o .0) t j))
-            ∙ sym (followed ∙ ap (λ p. judgedAt place (shaped k p)) (o .0))
+            ∙ same-place k n p at place
+            (λ t. a ∙ sym (number-at (length s) (ruleOf k) after (o .0) t))
+            (λ t j. b j ∙ o .1 ∙ sym (data-at (length s) (ruleOf k) after (o .0) t j))
+            ∙ sym (followed ∙ ap (λ r. judgedAt place (shaped k r)) (o .0))
+
+      -- texts are SNA's
+      module _ {n d : ℕ} {t : Step} (x : value (n, (payload.Texts t, d)) ≡ shapeIn rule s (e + 1)) where
+        stores-step : (k ≡ Sna) × (isStep t ≡ true)
+        stores-step = reads-texts k (texts after) (was-shaped x .0)
+
+        judged-step : {v : Judged × ℕ} → v ≡ judgedAt (λ m. e + 1) (requestOrRefusal Sna n (payload.Texts t)) → v ≡ promised
+        judged-step {v} y =
+            let w = stores-step in
+            judged x (λ m. e + 1) refl (λ z. false-true (sym (rw (w .0, w .1) at z))) (rw (w .0) y)
 
 -- ---- the name as it was read
 
@@ -122,7 +138,7 @@ returns : tie.Need-returns
 returns c =
     let name = c .before .before .before in
     let a = name .before .before .before .args in
-    c .refused .ensures ∙ unknown (a .s .now) (a .from) (sym (rw (rest (a .from) (a .s .now)) at (name .read-name .ensures .0)) ∙ c .before .enum-told .given .1)
+    c .refused .ensures _ ∙ unknown (a .s .now) (a .from) (sym (rw (rest (a .from) (a .s .now)) at (name .read-name .ensures .0)) ∙ c .before .enum-told .given .1)
 
 add-end : tie.Need-add-end
 add-end c =
@@ -135,23 +151,41 @@ returns-2 c =
     let r = c .before .before .before in
     let k = r .before .before in
     let a = start k .args in
-    c .refused2 .ensures ∙ alone (a .s .now) (a .from) (start k .pre) (command k) (ends k) (r .rule-of .ensures) (c .before .if1 .taken)
+    c .refused2 .ensures _ ∙ alone (a .s .now) (a .from) (start k .pre) (command k) (ends k) (r .rule-of .ensures) (c .before .if1 .taken)
+
+step-or-refusal-requires : tie.Need-step-or-refusal-requires
+step-or-refusal-requires c κs =
+    let s = c .before .before .before in
+    let r = s .before .before .before .before in
+    let k = r .before .before in
+    let a = start k .args in
+    r .rule-of .ensures ∙ ap ruleOf (stores-step (a .s .now) (a .from) (start k .pre) (command k) (ends k) (r .rule-of .ensures) (s .before .before .if1 .left) (rw (c .before .shape2 .given .1) at (s .read-shape .ensures)) .0)
 
 returns-3 : tie.Need-returns-3
 returns-3 c =
     let s = c .before .before .before .before in
-    let r = s .before .before .before in
+    let r = s .before .before .before .before in
     let k = r .before .before in
     let a = start k .args in
-    judged (a .s .now) (a .from) (start k .pre) (command k) (ends k) (r .rule-of .ensures) (s .before .if1 .left) (s .read-shape .ensures) (c .before .before .shape .given .1) (c .request-or-refusal .ensures)
+    judged (a .s .now) (a .from) (start k .pre) (command k) (ends k) (r .rule-of .ensures) (s .before .before .if1 .left) (rw (c .before .before .shape .given .1) at (s .read-shape .ensures)) _ refl (λ z. refl) (c .request-or-refusal .ensures _)
 
 returns-4 : tie.Need-returns-4
 returns-4 c =
     let s = c .before .before .before .before in
-    let r = s .before .before .before in
+    let r = s .before .before .before .before in
     let k = r .before .before in
     let a = start k .args in
-    c .refused3 .ensures ∙ misshapen (a .s .now) (a .from) (start k .pre) (command k) (ends k) (r .rule-of .ensures) (s .before .if1 .left) (s .read-shape .ensures) (c .before .before .shape2 .given .1)
+    let x = rw (c .before .before .shape2 .given .1) at (s .read-shape .ensures) in
+    judged-step (a .s .now) (a .from) (start k .pre) (command k) (ends k) (r .rule-of .ensures) (s .before .before .if1 .left) x
+    (c .step-or-refusal .ensures _ (stores-step (a .s .now) (a .from) (start k .pre) (command k) (ends k) (r .rule-of .ensures) (s .before .before .if1 .left) x .1))
+
+returns-5 : tie.Need-returns-5
+returns-5 c =
+    let s = c .before .before .before .before in
+    let r = s .before .before .before .before in
+    let k = r .before .before in
+    let a = start k .args in
+    c .refused3 .ensures _ ∙ misshapen (a .s .now) (a .from) (start k .pre) (command k) (ends k) (r .rule-of .ensures) (s .before .before .if1 .left) (rw (c .before .before .shape3 .given .1) at (s .read-shape .ensures))
 
 pub read-fields-spec : {M : Type 1} → statement M
 read-fields-spec =
@@ -174,6 +208,9 @@ read-fields-spec =
     (λ c. search needs)
     (λ c κs. search needs)
     (λ c. search needs)
+    step-or-refusal-requires
+    (λ c. search needs)
     (λ c κs. search needs)
     returns-3
-    returns-4)
+    returns-4
+    returns-5)

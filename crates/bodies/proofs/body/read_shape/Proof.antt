@@ -8,38 +8,36 @@ use borrow.Author.Needs.{needs}
 use lib.ListN.{length, drop}
 use Rattle.text.specs.Scan.{fieldAt, endAt}
 use Rattle.text.specs.Whole.{readWhole}
+use Rattle.text.specs.Read.{Read, value, wrong, readAt}
+use Rattle.text.proofs.Read.{was-read, was-wrong}
 use Rattle.text.proofs.Fields.{told-some, told-none}
 use Rattle.frame.specs.Fields.{fields, Placed, placedMore, placed, readsAs, startOf, offending}
 use Rattle.frame.proofs.Laws.{first-is}
 use Rattle.frame.proofs.Placed.{placed-texts, placed-only, placed-next, offending-none, offending-lack, offending-next}
 use Rattle.commands.specs.declared.table.Rule.{Rule}
+use Rattle.commands.specs.declared.request.Row.{Row}
 use Rattle.commands.specs.declared.request.Payload.{Payload}
 use Rattle.commands.specs.declared.request.Payload.the-variants as payload
-use Rattle.data.specs.declared.data.DataRead.{DataRead}
-use Rattle.data.specs.declared.data.DataRead.the-variants as answer-for
 use Rattle.data.specs.Data.{readData, dataForms, dataIn}
-use Rattle.data.proofs.Bounds.{data-some, data-none}
 use Rattle.data.proofs.Texts.{no-fields}
-use Rattle.bodies.specs.declared.body.Shape.{Shape}
-use Rattle.bodies.specs.declared.body.Shape.the-variants.{Of, Malformed}
-use Rattle.bodies.specs.Body.{dataShape, numbered, readShape}
-use Rattle.bodies.specs.Position.{forms, shapeAt, shapeIn}
+use Rattle.bodies.specs.Body.{dataShape, numbered, given, readShape}
+use Rattle.bodies.specs.Position.{forms, started, shapeIn}
 use Rattle.bodies.proofs.body.read_shape.Statement.{statement}
 use Rattle.bodies.proofs.body.read_shape.Tie as tie
 
 -- ---- the answer for a list of fields
 
 module _ (etx : ℕ) (rule : Rule) where
-  answer : List Placed → Shape
-  answer fs = shapeAt (startOf etx (drop 1 fs)) (offending etx (forms rule) fs) (readShape rule (map (λ f. f .text) fs))
+  answer : List Placed → Read (ℕ × (Payload × ℕ))
+  answer fs = readAt (offending etx (forms rule) fs) (started (startOf etx (drop 1 fs)) (readShape rule (map (λ f. f .text) fs)))
 
   module _ (f : Placed) (fs : List Placed) where
-    unread : readWhole (f .text) ≡ none → answer (f ∷ fs) ≡ Malformed (f .position)
+    unread : readWhole (f .text) ≡ none → answer (f ∷ fs) ≡ wrong (f .position)
     unfolding answer readShape
     unread e = rw (offending-next etx (λ s. readsAs (λ n. true) (readWhole s)) (cond (rule .store) (dataForms (rule .form)) []) f fs, e)
 
     -- the number is n, and the fields after it decide
-    read : {n : ℕ} → readWhole (f .text) ≡ some n → answer (f ∷ fs) ≡ shapeAt (startOf etx fs) (offending etx (cond (rule .store) (dataForms (rule .form)) []) fs) (numbered (some n) (dataShape (rule .store) (rule .form) (map (λ g. g .text) fs)))
+    read : {n : ℕ} → readWhole (f .text) ≡ some n → answer (f ∷ fs) ≡ readAt (offending etx (cond (rule .store) (dataForms (rule .form)) []) fs) (started (startOf etx fs) (numbered (some n) (dataShape (rule .store) (rule .form) (map (λ g. g .text) fs))))
     unfolding answer readShape
     read e = rw (offending-next etx (λ s. readsAs (λ n. true) (readWhole s)) (cond (rule .store) (dataForms (rule .form)) []) f fs, e)
 
@@ -53,16 +51,16 @@ module _ (rule : Rule) (s : List ℕ) (i : ℕ) where
   unfolding answer
   answer-is fs e = rw (← placed-texts i (drop i s), e)
 
-  unread-at : readWhole (fieldAt s i) ≡ none → shapeIn rule s i ≡ Malformed i
+  unread-at : readWhole (fieldAt s i) ≡ none → shapeIn rule s i ≡ wrong i
   unfolding placed here
   unread-at e = answer-is (here ∷ placedMore i (drop i s)) (rw (first-is (drop i s))) ∙ unread (length s) rule here (placedMore i (drop i s)) e
 
   module _ (h : i ≤ length s) {e n : ℕ} (w : readWhole (fieldAt s i) ≡ some n) (q : e ≡ endAt s i) where
-    alone : e ≡ length s → shapeIn rule s i ≡ shapeAt e (offending e (cond (rule .store) (dataForms (rule .form)) []) []) (numbered (some n) (dataShape (rule .store) (rule .form) []))
+    alone : e ≡ length s → shapeIn rule s i ≡ readAt (offending e (cond (rule .store) (dataForms (rule .form)) []) []) (started e (numbered (some n) (dataShape (rule .store) (rule .form) [])))
     unfolding here
     alone z = answer-is (here ∷ []) (placed-only s i h (sym q ∙ z)) ∙ rw (z) (read (length s) rule here [] w)
 
-    followed : (e ≡ length s → ⊥) → shapeIn rule s i ≡ shapeAt (e + 1) (offending (length s) (cond (rule .store) (dataForms (rule .form)) []) (placed (e + 1) (drop (e + 1) s))) (numbered (some n) (dataShape (rule .store) (rule .form) (fields (drop (e + 1) s))))
+    followed : (e ≡ length s → ⊥) → shapeIn rule s i ≡ readAt (offending (length s) (cond (rule .store) (dataForms (rule .form)) []) (placed (e + 1) (drop (e + 1) s))) (started (e + 1) (numbered (some n) (dataShape (rule .store) (rule .form) (fields (drop (e + 1) s)))))
     unfolding here placed
     followed z =
         answer-is (here ∷ placed (e + 1) (drop (e + 1) s)) (rw q (placed-next s i h (λ d. z (q ∙ d))))
@@ -70,24 +68,27 @@ module _ (rule : Rule) (s : List ℕ) (i : ℕ) where
         ∙ rw (placed-texts (e + 1) (drop (e + 1) s))
 
     -- fields lack, or there is one too many
-    lacks : rule .store ≡ true → e ≡ length s → Malformed e ≡ shapeIn rule s i
+    lacks : rule .store ≡ true → e ≡ length s → wrong e ≡ shapeIn rule s i
     lacks t z = let d = no-fields e (rule .form) in sym (alone z ∙ rw (t, d .0, d .1))
 
-    surplus : rule .store ≡ false → (e ≡ length s → ⊥) → Malformed (e + 1) ≡ shapeIn rule s i
+    surplus : rule .store ≡ false → (e ≡ length s → ⊥) → wrong (e + 1) ≡ shapeIn rule s i
     unfolding fields placed
     surplus t z = sym (followed z ∙ rw (t, offending-none (length s) (placed (e + 1) (drop (e + 1) s))))
 
     -- no data are given, or the data decide
-    bare : rule .store ≡ false → e ≡ length s → Of n payload.None e ≡ shapeIn rule s i
-    bare t z = sym (alone z ∙ rw t)
+    bare : (r : Row) → rule .store ≡ false → e ≡ length s → value (n, (given (rule .store) r, e)) ≡ shapeIn rule s i
+    bare r t z = ap (λ x. value (n, (given x r, e))) t ∙ sym (alone z ∙ rw t)
 
-    module _ (t : rule .store ≡ true) (z : e ≡ length s → ⊥) {v : DataRead} (a : v ≡ dataIn (rule .form) s (e + 1)) where
-      given : {r : Payload} → v ≡ answer-for.Of r → Of n r (e + 1) ≡ shapeIn rule s i
-      given d = sym (followed z ∙ rw (t, data-some _ (readData (rule .form) (fields (drop (e + 1) s))) a d))
+    module _ (t : rule .store ≡ true) (z : e ≡ length s → ⊥) where
+      with-data : {p : Payload} → value p ≡ dataIn (rule .form) s (e + 1) → value (n, (p, e + 1)) ≡ shapeIn rule s i
+      with-data d = sym (followed z ∙ rw (t, was-read _ (readData (rule .form) (fields (drop (e + 1) s))) d))
 
-      wrong : {p : ℕ} → v ≡ answer-for.Malformed p → Malformed p ≡ shapeIn rule s i
-      wrong d =
-          let w = data-none _ (readData (rule .form) (fields (drop (e + 1) s))) a d in
+      with-numbers : {r : Row} → value (payload.Numbers r) ≡ dataIn (rule .form) s (e + 1) → value (n, (given (rule .store) r, e + 1)) ≡ shapeIn rule s i
+      with-numbers {r} d = ap (λ x. value (n, (given x r, e + 1))) t ∙ with-data d
+
+      misshapen : {p : ℕ} → wrong p ≡ dataIn (rule .form) s (e + 1) → wrong p ≡ shapeIn rule s i
+      misshapen d =
+          let w = was-wrong _ (readData (rule .form) (fields (drop (e + 1) s))) d in
           sym (followed z ∙ rw (t, w .0, w .1))
 
 -- ---- the number as it was read
@@ -112,34 +113,41 @@ returns-2 : tie.Need-returns-2
 returns-2 c =
     let n = c .before .before .before in
     let a = start n .args in
-    bare (a .rule) (a .s .now) (a .from) (start n .pre) (number n) (ends n) (c .if2 .left) (c .before .if1 .taken)
+    bare (a .rule) (a .s .now) (a .from) (start n .pre) (number n) (ends n) _ (c .if2 .left) (c .before .if1 .taken)
 
 returns-3 : tie.Need-returns-3
 returns-3 c =
     let d = c .before .before .before in
-    let n = d .before .before .before .before in
+    let n = d .before .before .before .before .before in
     let a = start n .args in
-    given (a .rule) (a .s .now) (a .from) (start n .pre) (number n) (ends n) (d .before .if3 .taken) (d .before .before .if1 .left) (d .read-data .ensures) (c .before .read .given .1)
+    with-numbers (a .rule) (a .s .now) (a .from) (start n .pre) (number n) (ends n) (d .before .before .if3 .taken) (d .before .before .before .if1 .left) (rw (c .before .read .given .1) at (d .read-data .ensures))
 
 returns-4 : tie.Need-returns-4
 returns-4 c =
-    let d = c .before .before .before in
-    let n = d .before .before .before .before in
+    let d = c .before .before in
+    let n = d .before .before .before .before .before in
     let a = start n .args in
-    wrong (a .rule) (a .s .now) (a .from) (start n .pre) (number n) (ends n) (d .before .if3 .taken) (d .before .before .if1 .left) (d .read-data .ensures) (c .before .read2 .given .1)
+    with-data (a .rule) (a .s .now) (a .from) (start n .pre) (number n) (ends n) (d .before .before .if3 .taken) (d .before .before .before .if1 .left) (rw (c .enum-told .given .1) at (d .read-data .ensures))
 
 returns-5 : tie.Need-returns-5
 returns-5 c =
+    let d = c .before .before .before in
+    let n = d .before .before .before .before .before in
+    let a = start n .args in
+    misshapen (a .rule) (a .s .now) (a .from) (start n .pre) (number n) (ends n) (d .before .before .if3 .taken) (d .before .before .before .if1 .left) (rw (c .before .read2 .given .1) at (d .read-data .ensures))
+
+returns-6 : tie.Need-returns-6
+returns-6 c =
     let n = c .before .before .before in
     let a = start n .args in
     surplus (a .rule) (a .s .now) (a .from) (start n .pre) (number n) (ends n) (c .if3 .left) (c .before .if1 .left)
 
-returns-6 : tie.Need-returns-6
-returns-6 c =
+returns-7 : tie.Need-returns-7
+returns-7 c =
     let read = c .before .before .before in
     let a = read .before .before .args in
     let w = told-none (a .from) (readWhole (fieldAt (a .s .now) (a .from))) (read .read-whole .ensures .0) (c .before .whole2 .given .1) in
-    ap Malformed (w .1) ∙ sym (unread-at (a .rule) (a .s .now) (a .from) (w .0))
+    ap wrong (w .1) ∙ sym (unread-at (a .rule) (a .s .now) (a .from) (w .0))
 
 pub read-shape-spec : {M : Type 1} → statement M
 read-shape-spec =
@@ -153,8 +161,10 @@ read-shape-spec =
     (λ c κs. search needs)
     (λ c. search needs)
     (λ c. search needs)
+    (λ c. search needs)
     returns-3
     returns-4
-    (λ c. search needs)
     returns-5
-    returns-6)
+    (λ c. search needs)
+    returns-6
+    returns-7)

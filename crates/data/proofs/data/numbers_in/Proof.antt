@@ -7,13 +7,13 @@ use Rattle.data.proofs.data.numbers_in.Statement.{statement}
 use Rattle.data.proofs.data.numbers_in.Tie as tie
 
 returns : tie.Need-returns
-returns c =
+returns c ts =
     let r = c .before .before .before in
     let a = r .before .before .args in
     rw (values-some _ (readNumbers (a .kind) (fields (drop (a .from) (a .s .now)))) (r .read-numbers .ensures) (c .before .values .given .1))
 
 returns-2 : tie.Need-returns-2
-returns-2 c =
+returns-2 c ts =
     let r = c .before .before .before in
     let a = r .before .before .args in
     let w = values-none _ (readNumbers (a .kind) (fields (drop (a .from) (a .s .now)))) (r .read-numbers .ensures) (c .before .values2 .given .1) in

@@ -10,5 +10,5 @@ read-data-spec =
     (λ c κs. search needs)
     (λ c. search needs)
     (λ c κs. search needs)
-    (λ c. rw (c .before .before .form .given .1) (c .numbers-in .ensures))
-    (λ c. rw (c .before .enum-told .given .1) (c .texts-in .ensures)))
+    (λ c. rw (c .before .before .form .given .1) (c .numbers-in .ensures _))
+    (λ c. rw (c .before .before .enum-told .given .1) (c .texts-in .ensures)))

@@ -8,9 +8,9 @@ use Rattle.data.proofs.data.texts_in.Tie as tie
 
 returns : tie.Need-returns
 returns c =
-    let r = c .before .before .before in
+    let r = c .before .before .before .before in
     let a = r .before .before .args in
-    rw (read-some _ (readStep (fields (drop (a .from) (a .s .now)))) (r .read-step .ensures) (c .before .read .given .1))
+    rw (read-some _ (readStep (fields (drop (a .from) (a .s .now)))) (r .read-step .ensures) (c .before .before .read .given .1), c .packed-of .ensures)
 
 returns-2 : tie.Need-returns-2
 returns-2 c =
@@ -21,4 +21,5 @@ returns-2 c =
 
 pub texts-in-spec : {M : Type 1} → statement M
 texts-in-spec =
-    tie.close (tie.spec (λ c κs. search needs) (λ c. search needs) (λ c. search needs) returns returns-2)
+    tie.close
+    (tie.spec (λ c κs. search needs) (λ c. search needs) (λ c κs. search needs) (λ c. search needs) returns returns-2)

@@ -9,7 +9,7 @@ use lib.ListN.{length}
 use Rattle.text.specs.Put.{PutAt}
 use Rattle.frame.specs.Frame.{readFrame, frameOf}
 use Rattle.commands.specs.declared.request.Request.{Request}
-use Rattle.bodies.specs.declared.body.Judged.the-variants.{Accepted, Refused}
+use Rattle.bodies.specs.Body.{Accepted, Refused}
 use Rattle.replies.specs.declared.reply.Outcome.{Outcome}
 use Rattle.bodies.specs.Body.{readBody}
 use Rattle.bodies.specs.Position.{bodyPosition}
@@ -49,30 +49,15 @@ module _ {k s : ℕ} {slice : List ℕ} {t : Tables} {xs ys : List ℕ} {m : ℕ
 read-body-requires : tie.Need-read-body-requires
 read-body-requires c κs = search needs
 
-enum-known-judged : tie.Need-enum-known-judged
-enum-known-judged c = search needs
-
-perform-requires : tie.Need-perform-requires
-perform-requires c κs =
+perform-parsed-requires : tie.Need-perform-parsed-requires
+perform-parsed-requires c κs =
     let v = c .before .before .before .before .before .before .before .before .before .before .before .before in
     let b = v .before .before in
-    let a = b .before .before .before .before .before in
-    ((a .pre .0 .0, accepted-in-range _ (v .judged .given .0 .0) (body-judged (a .args .slice .now) (b .read-body .ensures) (v .judged .given .1))), a .pre .1 .0)
+    let a = b .before .before .before .before .before .before in
+    ((a .pre .0 .0, accepted-in-range _ _ (body-judged (a .args .slice .now) _ (b .read-body .result) (b .read-body .ensures) (v .verdict .given .1))), a .pre .1 .0)
 
 put-reply-requires : tie.Need-put-reply-requires
-put-reply-requires c κs = c .before .before .before .before .before .before .before .before .before .before .before .before .before .before .before .before .before .before .before .before .before .before .before .pre .0 .1
-
-enum-known-judged-2 : tie.Need-enum-known-judged-2
-enum-known-judged-2 c = search needs
-
-put-refused-requires : tie.Need-put-refused-requires
-put-refused-requires c κs = search needs
-
-same-length : tie.Need-same-length
-same-length c = search needs
-
-same-length-2 : tie.Need-same-length-2
-same-length-2 c = search needs
+put-reply-requires c κs = c .before .before .before .before .before .before .before .before .before .before .before .before .before .before .before .before .before .before .before .before .before .before .before .before .pre .0 .1
 
 returns : tie.Need-returns
 returns c =
@@ -80,36 +65,33 @@ returns c =
     let p = w .before .before .before .before in
     let v = p .before .before .before .before .before .before .before .before .before .before .before .before .before in
     let b = v .before .before in
-    let a = b .before .before .before .before .before in
-    asked-served (a .pre .0 .1) (body-judged (a .args .slice .now) (b .read-body .ensures) (v .judged .given .1)) (p .perform .ensures) (c .number-in .ensures) (w .put-reply .ensures)
-
-same-length-3 : tie.Need-same-length-3
-same-length-3 c = search needs
+    let a = b .before .before .before .before .before .before in
+    asked-served (a .pre .0 .1) (body-judged (a .args .slice .now) _ (b .read-body .result) (b .read-body .ensures) (v .verdict .given .1)) (p .perform-parsed .ensures) (c .number-in .ensures) (w .put-reply .ensures)
 
 returns-2 : tie.Need-returns-2
 returns-2 c =
     let w = c .before .before in
     let v = w .before .before .before in
     let b = v .before .before in
-    let a = b .before .before .before .before .before in
+    let a = b .before .before .before .before .before .before in
     let s = a .args .slice .now in
     let e = b .read-body .ensures in
-    let g = v .judged2 .given .1 in
-    refused-served (a .pre .0 .1) (body-judged s e g, body-refused s e g) (w .put-refused .ensures)
+    let g = v .verdict2 .given .1 in
+    refused-served (a .pre .0 .1) (body-judged s _ (b .read-body .result) e g, body-refused s _ (b .read-body .result) e g) (w .put-refused .ensures)
 
 pub serve-body-spec : {M : Type 1} → statement M
 serve-body-spec =
     tie.close
     (tie.spec
     read-body-requires
-    enum-known-judged
-    perform-requires
+    (λ c. search needs)
+    perform-parsed-requires
     put-reply-requires
     (λ c κs. search needs)
-    enum-known-judged-2
-    put-refused-requires
-    same-length
-    same-length-2
+    (λ c. search needs)
+    (λ c κs. search needs)
+    (λ c. search needs)
+    (λ c. search needs)
     returns
-    same-length-3
+    (λ c. search needs)
     returns-2)

@@ -18,30 +18,24 @@ returns c =
 
 read-body-requires : tie.Need-read-body-requires
 read-body-requires c κs =
-    let f = c .before in
-    (sym (f .read-frame .ensures .0 .number-is) ∙ c .if1 .left, f .read-frame .ensures .0 .body-is)
-
-enum-known-judged : tie.Need-enum-known-judged
-enum-known-judged c = search needs
-
-enum-known-judged-2 : tie.Need-enum-known-judged-2
-enum-known-judged-2 c = search needs
+    let f = c .before .before in
+    (sym (f .read-frame .ensures .0 .number-is) ∙ c .before .if1 .left, f .read-frame .ensures .0 .body-is)
 
 returns-2 : tie.Need-returns-2
 unfolding readRequest
 returns-2 c =
-    let b = c .before .before .before in
-    let f = b .before .before in
-    rw (← f .read-frame .ensures .0 .number-is, eq-eqb _ _ (b .before .if1 .left), ← f .read-frame .ensures .0 .station-is, body-judged (f .before .before .before .before .before .args .slice .now) (b .read-body .ensures) (c .before .judged .given .1))
+    let b = c .before .before .before .before in
+    let f = b .before .before .before in
+    rw (← f .read-frame .ensures .0 .number-is, eq-eqb _ _ (b .before .before .if1 .left), ← f .read-frame .ensures .0 .station-is, body-judged (f .before .before .before .before .before .args .slice .now) _ (b .read-body .result) (b .read-body .ensures) (c .before .before .verdict .given .1), ← c .request-with .ensures)
 
 returns-3 : tie.Need-returns-3
 unfolding readRequest
 returns-3 c =
     let b = c .before .before .before in
-    let f = b .before .before in
+    let f = b .before .before .before in
     let s = f .before .before .before .before .before .args .slice .now in
-    let g = c .before .judged2 .given .1 in
-    rw (← f .read-frame .ensures .0 .number-is, eq-eqb _ _ (b .before .if1 .left), body-judged s (b .read-body .ensures) g) (ap (noRequest (c .before .judged2 .given .0 .0)) (body-refused s (b .read-body .ensures) g))
+    let g = c .before .verdict2 .given .1 in
+    rw (← f .read-frame .ensures .0 .number-is, eq-eqb _ _ (b .before .before .if1 .left), body-judged s _ (b .read-body .result) (b .read-body .ensures) g) (ap (noRequest (c .before .verdict2 .given .0 .0)) (body-refused s _ (b .read-body .result) (b .read-body .ensures) g))
 
 pub read-request-spec : {M : Type 1} → statement M
 read-request-spec =
@@ -50,7 +44,8 @@ read-request-spec =
     read-frame-requires
     returns
     read-body-requires
-    enum-known-judged
-    enum-known-judged-2
+    (λ c. search needs)
+    (λ c κs. search needs)
+    (λ c. search needs)
     returns-2
     returns-3)

@@ -1,50 +1,44 @@
--- `held` is what the data that were read come to.
+-- `d` is where the data were read.
 use Prim.Native.Nat.{ℕ}
-use mathlib.Core.Path.{_≡_, refl, sym, _∙_}
+use mathlib.Core.Path.{_≡_, sym, ap, _∙_}
 use mathlib.Core.Option.{Option, none, some}
 use borrow.Author.Needs.{needs}
 use lib.ListN.{drop}
+use Rattle.text.specs.Read.{value, wrong}
+use Rattle.text.proofs.Read.{was-read, was-wrong}
 use Rattle.frame.specs.Fields.{fields}
 use Rattle.commands.specs.declared.request.Payload.{Payload}
-use Rattle.data.specs.declared.data.DataRead.{DataRead}
-use Rattle.data.specs.declared.data.DataRead.the-variants.{Of, Malformed}
-use Rattle.data.specs.Data.{readData, dataAt}
+use Rattle.commands.specs.declared.request.Payload.the-variants as payload
+use Rattle.data.specs.Data.{readData, dataWith, dataIn}
 use Rattle.replies.specs.Reply.{asData}
 use Rattle.replies.proofs.reply.read_content.Statement.{statement}
 use Rattle.replies.proofs.reply.read_content.Tie as tie
 
-payloadIn : DataRead → Option Payload
-payloadIn (Of p) = some p
-payloadIn (Malformed p) = none
+module _ (d : tie.After-read-data) where
+  abbrev start : tie.Start
+  start = d .before .before .before
 
-payload-in : (at : ℕ) (o : Option Payload) → payloadIn (dataAt at o) ≡ o
-unfolding payloadIn
-payload-in at (some p) = refl
-payload-in at none = refl
+  -- the data
+  abbrev found : Option Payload
+  found = readData (start .args .form) (fields (drop (start .args .from) (start .args .body .now)))
 
-held :
-    (c : tie.After-read-data) →
-    let a = c .before .before .args in
-    asData (a .form) (a .asked) (payloadIn (c .read-data .result)) ≡ asData (a .form) (a .asked) (readData (a .form) (fields (drop (a .from) (a .body .now))))
-held c =
-    let a = c .before .before .args in
-    rw (c .read-data .ensures, payload-in _ (readData (a .form) (fields (drop (a .from) (a .body .now)))))
+  read : {p : Payload} → value p ≡ dataIn (start .args .form) (start .args .body .now) (start .args .from) → asData (start .args .form) (start .args .asked) (some p) ≡ asData (start .args .form) (start .args .asked) found
+  read e = ap (asData (start .args .form) (start .args .asked)) (sym (was-read _ found e))
 
 returns : tie.Need-returns
-unfolding payloadIn
 returns c =
-    let v = c .before .before .before .before in
-    rw (v .read .given .1, sym (c .before .before .in-ranges .ensures) ∙ c .before .if1 .taken, ← c .data-of .ensures) at (held (v .before .before))
+    let d = c .before .before .before .before in
+    c .held-in .ensures ∙ read d (rw (c .before .before .read .given .1) at (d .read-data .ensures))
 
 returns-2 : tie.Need-returns-2
-unfolding payloadIn
 returns-2 c =
-    let v = c .before .before .before in
-    rw (v .read .given .1, sym (c .before .in-ranges .ensures) ∙ c .if1 .left) at (held (v .before .before))
+    let d = c .before .before .before .before in
+    c .held-in2 .ensures ∙ ap (λ s. asData (start d .args .form) (start d .args .asked) (some (payload.Texts s))) (c .before .step-of .ensures) ∙ read d (rw (c .before .before .enum-told .given .1) at (d .read-data .ensures))
 
 returns-3 : tie.Need-returns-3
-unfolding payloadIn
-returns-3 c = rw (c .enum-told .given .1) at (held (c .before .before))
+returns-3 c =
+    let d = c .before .before in
+    ap (asData (start d .args .form) (start d .args .asked)) (sym (was-wrong _ (found d) (rw (c .enum-told2 .given .1) at (d .read-data .ensures)) .0))
 
 pub read-content-spec : {M : Type 1} → statement M
 read-content-spec =
@@ -53,8 +47,10 @@ read-content-spec =
     (λ c κs. search needs)
     (λ c. search needs)
     (λ c κs. search needs)
-    (λ c κs. search needs)
-    returns
     (λ c. search needs)
+    (λ c κs. search needs)
+    (λ c κs. search needs)
+    (λ c. search needs)
+    returns
     returns-2
     returns-3)
