@@ -14,11 +14,7 @@ use Rattle.commands.specs.declared.table.Kind.{Kind}
 use Rattle.commands.specs.declared.table.Kind.the-variants as kind
 use Rattle.commands.specs.declared.request.Row.{Row}
 use Rattle.commands.specs.Request.{one}
-use Rattle.numbers.specs.declared.field.Field.{Field}
 use Rattle.numbers.specs.declared.field.Field.the-variants as field
-use Rattle.numbers.specs.declared.numbers.Values.{Values}
-use Rattle.numbers.specs.declared.numbers.Values.the-variants as values
-use Rattle.numbers.specs.Numbers.{valueAt, valuesAt}
 use Rattle.numbers.specs.Ranges.{countOf, limitsOf, inRange, eachInRange, allInRange}
 
 pub and-left : (s t : Bool) → s && t ≡ true → s ≡ true
@@ -31,31 +27,10 @@ and-right true t e = e
 and-right false true e = refl
 and-right false false e = e
 
--- ---- what a field was read as, by the answer for it
+-- ---- what is malformed is no value
 
 pub no-value : {A : Type 0} {p : ℕ} {v : ℤ} → field.Malformed p ≡ field.Value v → A
 no-value e = let z : _≡_ {A = ℕ} 0 1 = cc in absurd (omega arith)
-
-pub told-some : (at : ℕ) (o : Option ℤ) {f : Field} {v : ℤ} → f ≡ valueAt at o → f ≡ field.Value v → o ≡ some v
-told-some at (some u) e q = ap some cc
-told-some at none e q = no-value (sym e ∙ q)
-
-pub told-none : (at : ℕ) (o : Option ℤ) {f : Field} {p : ℕ} → f ≡ valueAt at o → f ≡ field.Malformed p → (o ≡ none) × (p ≡ at)
-told-none at (some u) e q = no-value (sym q ∙ e)
-told-none at none e q = (refl, cc)
-
--- ---- what fields were read as, by the answer for them
-
-no-values : {A : Type 0} {p : ℕ} {r : Row} → values.Malformed p ≡ values.Of r → A
-no-values e = let z : _≡_ {A = ℕ} 0 1 = cc in absurd (omega arith)
-
-pub values-some : (at : ℕ) (o : Option Row) {w : Values} {r : Row} → w ≡ valuesAt at o → w ≡ values.Of r → o ≡ some r
-values-some at (some q) e d = ap some cc
-values-some at none e d = no-values (sym e ∙ d)
-
-pub values-none : (at : ℕ) (o : Option Row) {w : Values} {p : ℕ} → w ≡ valuesAt at o → w ≡ values.Malformed p → (o ≡ none) × (p ≡ at)
-values-none at (some q) e d = no-values (sym d ∙ e)
-values-none at none e d = (refl, cc)
 
 -- ---- a value in its kind's range
 

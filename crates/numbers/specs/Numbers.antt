@@ -7,6 +7,7 @@ use lib.IntN.{ℤ, pos, natAbs}
 use lib.ListN.{length, drop, replicate}
 use Rattle.text.specs.Whole.{readWhole, shortest, padded}
 use Rattle.text.specs.Hundredths.{readHundredths, hundredthsText}
+use Rattle.text.specs.Read.{Read, value, wrong, readAt}
 use Rattle.frame.specs.Fields.{fields, placed, readFields, readsAs, spaced, offending}
 use Rattle.commands.specs.declared.table.Kind.{Kind}
 use Rattle.commands.specs.declared.table.Kind.the-variants as kind
@@ -31,10 +32,10 @@ readField kind.Register = readWholeField
 readField kind.Signal = readWholeField
 readField kind.Port = readWholeField
 
--- the reader's answer for a field that stands at a position
-abbrev pub valueAt : ℕ → Option ℤ → Field
-valueAt at (some v) = field.Value v
-valueAt at none = field.Malformed at
+-- what the reader's answer says
+abbrev pub fieldAnswer : Field → Read ℤ
+fieldAnswer (field.Value v) = value v
+fieldAnswer (field.Malformed p) = wrong p
 
 -- the digits of a whole value, which has at most 4
 abbrev pub digitsOf : ℤ → ℕ
@@ -63,13 +64,14 @@ numberForms k = replicate (countOf k) (λ f. readsAs (λ v. true) (readField k f
 abbrev pub numberRanges : Kind → List (List ℕ → Bool)
 numberRanges k = replicate (countOf k) (λ f. readsAs (inRange k) (readField k f))
 
-abbrev pub valuesAt : ℕ → Option Row → Values
-valuesAt at (some r) = Of r
-valuesAt at none = Malformed at
+-- the numbers that stand at an index of a text, which ETX follows
+abbrev pub numbersAt : Kind → List ℕ → ℕ → Read Row
+numbersAt k s i = readAt (offending (length s) (numberForms k) (placed i (drop i s))) (readNumbers k (fields (drop i s)))
 
--- the reader's answer for the data that stand at an index of a text, which ETX follows
-abbrev pub numbersAt : Kind → List ℕ → ℕ → Values
-numbersAt k s i = valuesAt (offending (length s) (numberForms k) (placed i (drop i s))) (readNumbers k (fields (drop i s)))
+-- what the reader's answer says
+abbrev pub valuesAnswer : Values → Read Row
+valuesAnswer (Of r) = value r
+valuesAnswer (Malformed p) = wrong p
 
 -- ---- writing
 

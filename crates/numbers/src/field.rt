@@ -17,7 +17,8 @@ ghost use Rattle.text.specs.Put.{Put};
 ghost use Rattle.text.specs.Scan.{fieldAt, endAt};
 ghost use Rattle.numbers.specs.declared.field.Field.the-variants.{Value};
 ghost use Rattle.text.specs.Hundredths.{readHundredths};
-ghost use Rattle.numbers.specs.Numbers.{readWholeField, readField, valueAt, digitsOf, fieldText};
+ghost use Rattle.text.specs.Read.{readAt};
+ghost use Rattle.numbers.specs.Numbers.{readWholeField, readField, fieldAnswer, digitsOf, fieldText};
 
 // What a field is as a value; a malformed one, with the position where it stands.
 pub enum Field {
@@ -33,7 +34,7 @@ pub struct ValueField {
 
 fn hundredths_field(s: &[u8], from: usize) -> ValueField
     requires { ⌜ from ≤ length (now s) ⌝ }
-    ensures { λ r. ⌜ r .field ≡ valueAt from (readHundredths (fieldAt (now (s .entry)) from)) ⌝ }
+    ensures { λ r. ⌜ fieldAnswer (r .field) ≡ readAt from (readHundredths (fieldAt (now (s .entry)) from)) ⌝ }
     ensures { λ r. ⌜ ((v : ℤ) → r .field ≡ Value v → r .end ≡ endAt (now (s .entry)) from) ⌝ }
 {
     let read = read_hundredths(s, from);
@@ -53,7 +54,7 @@ fn hundredths_field(s: &[u8], from: usize) -> ValueField
 
 fn whole_field(s: &[u8], from: usize) -> ValueField
     requires { ⌜ from ≤ length (now s) ⌝ }
-    ensures { λ r. ⌜ r .field ≡ valueAt from (readWholeField (fieldAt (now (s .entry)) from)) ⌝ }
+    ensures { λ r. ⌜ fieldAnswer (r .field) ≡ readAt from (readWholeField (fieldAt (now (s .entry)) from)) ⌝ }
     ensures { λ r. ⌜ ((v : ℤ) → r .field ≡ Value v → r .end ≡ endAt (now (s .entry)) from) ⌝ }
 {
     let read = read_whole(s, from);
@@ -74,7 +75,7 @@ fn whole_field(s: &[u8], from: usize) -> ValueField
 // Reads the field at `from` as a value of a kind.
 pub fn read_field(kind: Kind, s: &[u8], from: usize) -> ValueField
     requires { ⌜ from ≤ length (now s) ⌝ }
-    ensures { λ r. ⌜ r .field ≡ valueAt from (readField kind (fieldAt (now (s .entry)) from)) ⌝ }
+    ensures { λ r. ⌜ fieldAnswer (r .field) ≡ readAt from (readField kind (fieldAt (now (s .entry)) from)) ⌝ }
     ensures { λ r. ⌜ ((v : ℤ) → r .field ≡ Value v → r .end ≡ endAt (now (s .entry)) from) ⌝ }
 {
     match kind {

@@ -13,7 +13,7 @@ ghost use mathlib.Core.Path.{_≡_};
 ghost use Prim.Native.Nat.{_≤_, _+_};
 ghost use lib.ListN.{length};
 ghost use Rattle.text.specs.Put.{Put};
-ghost use Rattle.numbers.specs.Numbers.{numbersAt, numbersText};
+ghost use Rattle.numbers.specs.Numbers.{numbersAt, valuesAnswer, numbersText};
 
 // What fields are as data; where they are not, with the position where they are wrong.
 pub enum Values {
@@ -25,7 +25,7 @@ pub enum Values {
 // their form, at the first surplus field, or at the end of s where fields lack.
 pub fn read_numbers(kind: Kind, s: &[u8], from: usize) -> Values
     requires { ⌜ from ≤ length (now s) ⌝ }
-    ensures { λ r. ⌜ r ≡ numbersAt kind (now (s .entry)) from ⌝ }
+    ensures { λ r. ⌜ valuesAnswer r ≡ numbersAt kind (now (s .entry)) from ⌝ }
 {
     let count = count_of(kind);
     let mut values = [0; 4];

@@ -1,4 +1,4 @@
--- Laws of characters: one step of each loop over them, what a packed list is, and what the answers of the readers tell.
+-- Laws of characters: one step of each loop over them, what a packed list is.
 use Prim.Native.Nat.{ℕ, zero, suc, _+_, _-_, _*_, _/_, _%_, _^_, _≤_, _<_}
 use mathlib.Core.Path.{_≡_, refl, sym, ap, _∙_}
 use mathlib.Core.Bool.{Bool, true, false, cond, _&&_}
@@ -10,13 +10,8 @@ use borrow.Author.Tests.{le-leb, lt-leb, leb-true, eq-eqb, ne-eqb}
 use lib.Dec.{leb, eqb}
 use lib.ListN.{length, getD}
 use Rattle.steps.specs.declared.texts.Text.{Text}
-use Rattle.steps.specs.declared.texts.TextRead.{TextRead}
-use Rattle.steps.specs.declared.texts.TextRead.the-variants as read
-use Rattle.steps.specs.declared.step.Step.{Step}
-use Rattle.steps.specs.declared.step.StepRead.{StepRead}
-use Rattle.steps.specs.declared.step.StepRead.the-variants as step
-use Rattle.steps.specs.Text.{isChar, charsIn, onlyChars, isText, allChars, pack, readText, text, textAt}
-use Rattle.steps.specs.Step.{upTo, stepAt}
+use Rattle.steps.specs.Text.{isChar, charsIn, onlyChars, isText, allChars, pack, readText, text}
+use Rattle.steps.specs.Step.{upTo}
 
 -- ---- a character or not
 
@@ -153,32 +148,6 @@ read-bad s a b e = rw (le-leb 1 (length s) a, le-leb (length s) 8 b, e)
 pub read-good : (s : List ℕ) → 1 ≤ length s → length s ≤ 8 → allChars s ≡ true → readText s ≡ some (text (pack s))
 unfolding readText
 read-good s a b e = rw (le-leb 1 (length s) a, le-leb (length s) 8 b, e)
-
--- ---- what a field was read as, by the answer for it
-
-no-text : {A : Type 0} {p : ℕ} {t : Text} → read.Malformed p ≡ read.Of t → A
-no-text e = let z : _≡_ {A = ℕ} 0 1 = cc in absurd (omega arith)
-
-pub told-some : (at : ℕ) (o : Option Text) {r : TextRead} {t : Text} → r ≡ textAt at o → r ≡ read.Of t → o ≡ some t
-told-some at (some u) e q = ap some cc
-told-some at none e q = no-text (sym e ∙ q)
-
-pub told-none : (at : ℕ) (o : Option Text) {r : TextRead} {p : ℕ} → r ≡ textAt at o → r ≡ read.Malformed p → (o ≡ none) × (p ≡ at)
-told-none at (some u) e q = no-text (sym q ∙ e)
-told-none at none e q = (refl, cc)
-
--- ---- what fields were read as, by the answer for them
-
-no-step : {A : Type 0} {p : ℕ} {s : Step} → step.Malformed p ≡ step.Of s → A
-no-step e = let z : _≡_ {A = ℕ} 0 1 = cc in absurd (omega arith)
-
-pub read-some : (at : ℕ) (o : Option Step) {r : StepRead} {s : Step} → r ≡ stepAt at o → r ≡ step.Of s → o ≡ some s
-read-some at (some u) e q = ap some cc
-read-some at none e q = no-step (sym e ∙ q)
-
-pub read-none : (at : ℕ) (o : Option Step) {r : StepRead} {p : ℕ} → r ≡ stepAt at o → r ≡ step.Malformed p → (o ≡ none) × (p ≡ at)
-read-none at (some u) e q = no-step (sym q ∙ e)
-read-none at none e q = (refl, cc)
 
 -- ---- the numbers before the first 0
 

@@ -5,6 +5,7 @@ use mathlib.Core.List.{List, [], _∷_, map}
 use mathlib.Core.Option.{Option, none, some, Option·map}
 use lib.Dec.{leb, eqb}
 use lib.ListN.{length, getD, drop, replicate}
+use Rattle.text.specs.Read.{Read, value, wrong, readAt}
 use Rattle.frame.specs.Fields.{fields, placed, readFields, readsAs, spaced, offending}
 use Rattle.steps.specs.declared.step.Step.{Step}
 use Rattle.steps.specs.declared.step.StepRead.{StepRead}
@@ -61,13 +62,14 @@ readStep fs =
 abbrev pub stepForms : List (List ℕ → Bool)
 stepForms = replicate 5 (λ f. readsAs (λ t. true) (readText f))
 
-abbrev pub stepAt : ℕ → Option Step → StepRead
-stepAt at (some s) = Of s
-stepAt at none = Malformed at
+-- the step that stands at an index of a text, which ETX follows
+abbrev pub stepIn : List ℕ → ℕ → Read Step
+stepIn s i = readAt (offending (length s) stepForms (placed i (drop i s))) (readStep (fields (drop i s)))
 
--- the reader's answer for the step that stands at an index of a text, which ETX follows
-abbrev pub stepIn : List ℕ → ℕ → StepRead
-stepIn s i = stepAt (offending (length s) stepForms (placed i (drop i s))) (readStep (fields (drop i s)))
+-- what the reader's answer says
+abbrev pub stepAnswer : StepRead → Read Step
+stepAnswer (Of s) = value s
+stepAnswer (Malformed p) = wrong p
 
 -- ---- writing
 

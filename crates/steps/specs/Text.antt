@@ -6,6 +6,7 @@ use mathlib.Core.Option.{Option, none, some}
 use lib.Dec.{leb, eqb}
 use lib.ListN.{length}
 use Rattle.steps.specs.declared.texts.Text.{Text}
+use Rattle.text.specs.Read.{Read, value, wrong}
 use Rattle.steps.specs.declared.texts.TextRead.{TextRead}
 use Rattle.steps.specs.declared.texts.TextRead.the-variants.{Of, Malformed}
 
@@ -49,7 +50,7 @@ text n = record { 0 = n }
 unfoldable pub readText : List ℕ → Option Text
 readText s = cond (leb 1 (length s) && leb (length s) 8) (cond (allChars s) (some (text (pack s))) none) none
 
--- the reader's answer for a field that stands at a position
-abbrev pub textAt : ℕ → Option Text → TextRead
-textAt at (some t) = Of t
-textAt at none = Malformed at
+-- what the reader's answer says
+abbrev pub textAnswer : TextRead → Read Text
+textAnswer (Of t) = value t
+textAnswer (Malformed p) = wrong p

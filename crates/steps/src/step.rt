@@ -11,7 +11,7 @@ ghost use mathlib.Core.Path.{_≡_};
 ghost use Prim.Native.Nat.{_≤_, _+_};
 ghost use lib.ListN.{length};
 ghost use Rattle.text.specs.Put.{Put};
-ghost use Rattle.steps.specs.Step.{isDatum, isStep, packed, stepFrom, stepIn, stepText};
+ghost use Rattle.steps.specs.Step.{isDatum, isStep, packed, stepFrom, stepIn, stepAnswer, stepText};
 
 // The command and the data, 0 for each that is not there.
 pub struct Step {
@@ -58,7 +58,7 @@ pub fn step_of(texts: [u64; 5]) -> Step
 // the sixth.
 pub fn read_step(s: &[u8], from: usize) -> StepRead
     requires { ⌜ from ≤ length (now s) ⌝ }
-    ensures { λ r. ⌜ r ≡ stepIn (now (s .entry)) from ⌝ }
+    ensures { λ r. ⌜ stepAnswer r ≡ stepIn (now (s .entry)) from ⌝ }
 {
     let mut texts: [u64; 5] = [0; 5];
     let mut next = from;

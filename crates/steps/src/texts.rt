@@ -7,7 +7,8 @@ ghost use Prim.Native.Nat.{_≤_, _+_};
 ghost use lib.ListN.{length};
 ghost use Rattle.text.specs.Put.{Put};
 ghost use Rattle.text.specs.Scan.{fieldAt, endAt};
-ghost use Rattle.steps.specs.Text.{charsOf, isText, textAt, readText};
+ghost use Rattle.text.specs.Read.{readAt};
+ghost use Rattle.steps.specs.Text.{charsOf, isText, textAnswer, readText};
 
 pub struct Text(pub u64);
 
@@ -25,7 +26,7 @@ pub struct TextField {
 
 // Reads a whole field that stands at a position, from its last character to its first.
 fn read_packed(field: &[u8], position: usize) -> TextRead
-    ensures { λ r. ⌜ r ≡ textAt position (readText (now (field .entry))) ⌝ }
+    ensures { λ r. ⌜ textAnswer r ≡ readAt position (readText (now (field .entry))) ⌝ }
 {
     if field.len() < 1 {
         return TextRead::Malformed(position);
@@ -52,7 +53,7 @@ fn read_packed(field: &[u8], position: usize) -> TextRead
 // Reads the field at `from` as a text.
 pub fn read_text(s: &[u8], from: usize) -> TextField
     requires { ⌜ from ≤ length (now s) ⌝ }
-    ensures { λ r. ⌜ r .text ≡ textAt from (readText (fieldAt (now (s .entry)) from)) ⌝ }
+    ensures { λ r. ⌜ textAnswer (r .text) ≡ readAt from (readText (fieldAt (now (s .entry)) from)) ⌝ }
     ensures { λ r. ⌜ r .end ≡ endAt (now (s .entry)) from ⌝ }
 {
     let end = find(s, from, b' ');

@@ -11,9 +11,8 @@ use lib.Arith.{lt-of-le-ne}
 use lib.ListN.{length, getD, take, drop, length-drop}
 use lib.Seq.{length-take-le, drop-drop, getD-drop}
 use Rattle.text.specs.Scan.{until, before, fieldAt, endAt, emptyOr}
-use Rattle.text.specs.Whole.{isDigit, digitsOnto, readWhole, wholeAt, digitCount, digitValue}
+use Rattle.text.specs.Whole.{isDigit, digitsOnto, readWhole, digitCount, digitValue}
 use Rattle.text.specs.Hundredths.{magnitude, joined, decimals}
-use Rattle.text.specs.declared.whole.Whole.{Whole}
 use Rattle.text.specs.declared.whole.Whole.the-variants.{Value, Malformed}
 use Rattle.text.specs.declared.hundredths.Magnitude.the-variants.{Size, Unreadable}
 use Rattle.text.proofs.Laws.{here, over}
@@ -167,16 +166,6 @@ no-whole e = let z : _≡_ {A = ℕ} 0 1 = cc in absurd (omega arith)
 
 pub no-magnitude : {A : Type 0} {m : ℕ} → Unreadable ≡ Size m → A
 no-magnitude e = let z : _≡_ {A = ℕ} 0 1 = cc in absurd (omega arith)
-
--- ---- an answer tells what was read
-
-pub told-some : (at : ℕ) (o : Option ℕ) {w : Whole} {v : ℕ} → w ≡ wholeAt at o → w ≡ Value v → o ≡ some v
-told-some at (some u) e q = ap some cc
-told-some at none e q = no-whole (sym e ∙ q)
-
-pub told-none : (at : ℕ) (o : Option ℕ) {w : Whole} {p : ℕ} → w ≡ wholeAt at o → w ≡ Malformed p → (o ≡ none) × (p ≡ at)
-told-none at (some u) e q = no-whole (sym q ∙ e)
-told-none at none e q = (refl, cc)
 
 -- ---- a field as the digits after a point
 

@@ -6,7 +6,7 @@ use native.Mathlib.Omega.{arith}
 use Rattle.text.specs.Read.{Read, value, wrong, readAt}
 
 module _ {A : Type 0} where
-  no-value : {B : Type 0} {p : ℕ} {a : A} → wrong p ≡ value a → B
+  pub no-value : {B : Type 0} {p : ℕ} {a : A} → wrong p ≡ value a → B
   no-value e = let z : _≡_ {A = ℕ} 0 1 = cc in absurd (omega arith)
 
   pub was-read : (at : ℕ) (o : Option A) {a : A} → value a ≡ readAt at o → o ≡ some a

@@ -6,6 +6,7 @@ use mathlib.Core.Option.{Option, none, some}
 use lib.ListN.{length, getD, take, drop}
 use lib.IntN.{ℤ, pos, negsuc, negℤ}
 use lib.Dec.{ltb, eqb}
+use Rattle.text.specs.Read.{Read, value, wrong}
 use Rattle.text.specs.Scan.{before}
 use Rattle.text.specs.Whole.{readWhole, shortest, twoDigits}
 use Rattle.text.specs.declared.hundredths.Magnitude.{Magnitude}
@@ -50,10 +51,10 @@ signed false Unreadable = none
 unfoldable pub readHundredths : List ℕ → Option ℤ
 readHundredths s = cond (eqb (getD s 0 0) 45) (signed true (magnitude (drop 1 s))) (signed false (magnitude s))
 
--- the answer for a text that stands at a position: a malformed one is reported there
-abbrev pub hundredthsAt : ℕ → Option ℤ → Hundredths
-hundredthsAt at (some v) = Value v
-hundredthsAt at none = Malformed at
+-- what the reader's answer says
+abbrev pub hundredthsAnswer : Hundredths → Read ℤ
+hundredthsAnswer (Value v) = value v
+hundredthsAnswer (Malformed p) = wrong p
 
 -- the shortest whole part, of at most 4 digits, and two decimals
 unfoldable pub magnitudeText : ℕ → List ℕ

@@ -6,7 +6,7 @@ pub data Read (A : Type 0) : Type 0 where
   value : A → Read A
   wrong : ℕ → Read A
 
--- a text that is wrong, if it is, at a position
+-- the answer for a text that stands at a position: a malformed one is reported there
 abbrev pub readAt : {A : Type 0} → ℕ → Option A → Read A
 readAt at (some a) = value a
 readAt at none = wrong at

@@ -5,6 +5,7 @@ use mathlib.Core.List.{List, [], _∷_, _++_}
 use mathlib.Core.Option.{Option, none, some}
 use lib.ListN.{length}
 use lib.Dec.{ltb, leb}
+use Rattle.text.specs.Read.{Read, value, wrong}
 use Rattle.text.specs.declared.whole.Whole.{Whole}
 use Rattle.text.specs.declared.whole.Whole.the-variants.{Value, Malformed}
 
@@ -21,10 +22,10 @@ digitsOnto n (b ∷ bs) = cond (isDigit b) (digitsOnto (n * 10 + (b - 48)) bs) n
 unfoldable pub readWhole : List ℕ → Option ℕ
 readWhole s = cond (leb 1 (length s) && leb (length s) 4) (digitsOnto 0 s) none
 
--- the answer for a text that stands at a position: a malformed one is reported there
-abbrev pub wholeAt : ℕ → Option ℕ → Whole
-wholeAt at (some v) = Value v
-wholeAt at none = Malformed at
+-- what the reader's answer says
+abbrev pub wholeAnswer : Whole → Read ℕ
+wholeAnswer (Value v) = value v
+wholeAnswer (Malformed p) = wrong p
 
 -- how many digits a text starts with, of its first k bytes
 unfoldable pub digitCount : ℕ → List ℕ → ℕ

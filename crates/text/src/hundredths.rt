@@ -17,11 +17,12 @@ ghost use lib.ListN.{length};
 ghost use lib.IntN.{ℤ, natAbs};
 ghost use Rattle.text.specs.Put.{Put};
 ghost use Rattle.text.specs.Scan.{fieldAt, endAt};
-ghost use Rattle.text.specs.Whole.{wholeAt};
+ghost use Rattle.text.specs.Read.{readAt};
+ghost use Rattle.text.specs.Whole.{wholeAnswer};
 ghost use Rattle.text.specs.declared.whole.Whole.the-variants as whole;
 ghost use Rattle.text.specs.declared.hundredths.Magnitude.the-variants.{Size};
 ghost use Rattle.text.specs.declared.hundredths.Hundredths.the-variants.{Value};
-ghost use Rattle.text.specs.Hundredths.{Small, decimals, magnitude, signed, readHundredths, hundredthsAt, magnitudeText, sign, hundredthsText};
+ghost use Rattle.text.specs.Hundredths.{Small, decimals, magnitude, signed, readHundredths, hundredthsAnswer, magnitudeText, sign, hundredthsText};
 
 // A number of hundredths without its sign.
 pub enum Magnitude {
@@ -49,7 +50,7 @@ pub struct HundredthsField {
 // Reads the field at `from` as the digits after a point: one counts tenths, two count hundredths.
 fn read_decimals(s: &[u8], from: usize) -> WholeField
     requires { ⌜ from ≤ length (now s) ⌝ }
-    ensures { λ r. ⌜ r .whole ≡ wholeAt from (decimals (fieldAt (now (s .entry)) from)) ⌝ }
+    ensures { λ r. ⌜ wholeAnswer (r .whole) ≡ readAt from (decimals (fieldAt (now (s .entry)) from)) ⌝ }
     ensures { λ r. ⌜ ((v : ℕ) → r .whole ≡ whole.Value v → r .end ≡ endAt (now (s .entry)) from) ⌝ }
 {
     let read = read_whole(s, from);
@@ -124,7 +125,7 @@ fn read_magnitude(s: &[u8], from: usize) -> MagnitudeField
 // The magnitude with its sign, of a field at `at`.
 fn with_sign(m: Magnitude, minus: bool, at: usize) -> Hundredths
     requires { ⌜ Small m ⌝ }
-    ensures { λ r. ⌜ r ≡ hundredthsAt at (signed minus m) ⌝ }
+    ensures { λ r. ⌜ hundredthsAnswer r ≡ readAt at (signed minus m) ⌝ }
 {
     match m {
         Magnitude::Size(k) => {
@@ -154,7 +155,7 @@ fn after_sign(s: &[u8], from: usize) -> usize
 // Reads the field at `from` as a number of hundredths, byte by byte up to its end; any other text is malformed.
 pub fn read_hundredths(s: &[u8], from: usize) -> HundredthsField
     requires { ⌜ from ≤ length (now s) ⌝ }
-    ensures { λ r. ⌜ r .hundredths ≡ hundredthsAt from (readHundredths (fieldAt (now (s .entry)) from)) ⌝ }
+    ensures { λ r. ⌜ hundredthsAnswer (r .hundredths) ≡ readAt from (readHundredths (fieldAt (now (s .entry)) from)) ⌝ }
     ensures { λ r. ⌜ ((v : ℤ) → r .hundredths ≡ Value v → r .end ≡ endAt (now (s .entry)) from) ⌝ }
 {
     let start = after_sign(s, from);

@@ -7,7 +7,8 @@ ghost use Prim.Native.Nat.{ℕ, _≤_, _<_, _+_};
 ghost use lib.ListN.{length, drop};
 ghost use Rattle.text.specs.Put.{Put};
 ghost use Rattle.text.specs.Scan.{fieldAt, endAt};
-ghost use Rattle.text.specs.Whole.{readWhole, wholeAt, digitCount, digitValue, digit, leading, shortest, twoDigits, padded};
+ghost use Rattle.text.specs.Read.{readAt};
+ghost use Rattle.text.specs.Whole.{readWhole, wholeAnswer, digitCount, digitValue, digit, leading, shortest, twoDigits, padded};
 ghost use Rattle.text.specs.declared.whole.Whole.the-variants.{Value};
 
 // What a text is as a whole number; a malformed one, with the position where it stands.
@@ -65,7 +66,7 @@ pub fn read_digits(s: &[u8], from: usize) -> Digits
 // Reads the field at `from` as a whole number, byte by byte up to its end; any other text is malformed.
 pub fn read_whole(s: &[u8], from: usize) -> WholeField
     requires { ⌜ from ≤ length (now s) ⌝ }
-    ensures { λ r. ⌜ r .whole ≡ wholeAt from (readWhole (fieldAt (now (s .entry)) from)) ⌝ }
+    ensures { λ r. ⌜ wholeAnswer (r .whole) ≡ readAt from (readWhole (fieldAt (now (s .entry)) from)) ⌝ }
     ensures { λ r. ⌜ ((v : ℕ) → r .whole ≡ Value v → r .end ≡ endAt (now (s .entry)) from) ⌝ }
     ensures { λ r. ⌜ r .end ≤ length (now (s .entry)) ⌝ }
 {

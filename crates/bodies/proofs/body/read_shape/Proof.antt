@@ -10,7 +10,6 @@ use Rattle.text.specs.Scan.{fieldAt, endAt}
 use Rattle.text.specs.Whole.{readWhole}
 use Rattle.text.specs.Read.{Read, value, wrong, readAt}
 use Rattle.text.proofs.Read.{was-read, was-wrong}
-use Rattle.text.proofs.Fields.{told-some, told-none}
 use Rattle.frame.specs.Fields.{fields, Placed, placedMore, placed, readsAs, startOf, offending}
 use Rattle.frame.proofs.Laws.{first-is}
 use Rattle.frame.proofs.Placed.{placed-texts, placed-only, placed-next, offending-none, offending-lack, offending-next}
@@ -98,7 +97,7 @@ module _ (c : tie.After-whole) where
   start = c .before .before .before .before
 
   number : readWhole (fieldAt (start .args .s .now) (start .args .from)) ≡ some (c .whole .given .0 .0)
-  number = told-some _ _ (c .before .before .read-whole .ensures .0) (c .whole .given .1)
+  number = was-read _ _ (rw (c .whole .given .1) at (c .before .before .read-whole .ensures .0))
 
   ends : c .before .before .read-whole .result .end ≡ endAt (start .args .s .now) (start .args .from)
   ends = c .before .before .read-whole .ensures .1 .0 _ (c .whole .given .1)
@@ -146,7 +145,7 @@ returns-7 : tie.Need-returns-7
 returns-7 c =
     let read = c .before .before .before in
     let a = read .before .before .args in
-    let w = told-none (a .from) (readWhole (fieldAt (a .s .now) (a .from))) (read .read-whole .ensures .0) (c .before .whole2 .given .1) in
+    let w = was-wrong (a .from) (readWhole (fieldAt (a .s .now) (a .from))) (rw (c .before .whole2 .given .1) at (read .read-whole .ensures .0)) in
     ap wrong (w .1) ∙ sym (unread-at (a .rule) (a .s .now) (a .from) (w .0))
 
 pub read-shape-spec : {M : Type 1} → statement M

@@ -22,11 +22,11 @@ use Rattle.frame.proofs.Spaced.{left, some-left, none-left, next-left}
 use Rattle.commands.specs.declared.table.Kind.{Kind}
 use Rattle.commands.specs.declared.request.Row.{Row}
 use Rattle.commands.specs.Request.{rowOf}
-use Rattle.numbers.specs.declared.numbers.Values.{Values}
-use Rattle.numbers.specs.declared.numbers.Values.the-variants.{Of, Malformed}
+use Rattle.text.specs.Read.{Read, value, wrong, readAt}
+use Rattle.text.proofs.Read.{was-read, was-wrong}
 use Rattle.numbers.specs.Ranges.{countOf}
-use Rattle.numbers.specs.Numbers.{readField, valuesAt, numbersAt}
-use Rattle.numbers.proofs.Bounds.{few-values, told-some, told-none}
+use Rattle.numbers.specs.Numbers.{readField, numbersAt}
+use Rattle.numbers.proofs.Bounds.{few-values}
 use Rattle.numbers.proofs.numbers.read_numbers.Statement.{statement}
 use Rattle.numbers.proofs.numbers.read_numbers.Tie as tie
 
@@ -62,24 +62,24 @@ module _ (etx : ℕ) (k : Kind) where
   form : List ℕ → Bool
   form f = readsAs (λ v. true) (readField k f)
 
-  answer : List ℤ → ℕ → ℕ → List Placed → Values
-  answer xs i m fs = valuesAt (offending etx (replicate m form) fs) (filled xs i (readFields (readField k) m (map (λ f. f .text) fs)))
+  answer : List ℤ → ℕ → ℕ → List Placed → Read Row
+  answer xs i m fs = readAt (offending etx (replicate m form) fs) (filled xs i (readFields (readField k) m (map (λ f. f .text) fs)))
 
   module _ (xs : List ℤ) (i : ℕ) where
-    lack : (m : ℕ) → answer xs i (suc m) [] ≡ Malformed etx
+    lack : (m : ℕ) → answer xs i (suc m) [] ≡ wrong etx
     unfolding answer readFields filled
     lack m = rw (offending-lack etx form (replicate m form))
 
-    surplus : (f : Placed) (fs : List Placed) → answer xs i zero (f ∷ fs) ≡ Malformed (f .position)
+    surplus : (f : Placed) (fs : List Placed) → answer xs i zero (f ∷ fs) ≡ wrong (f .position)
     unfolding answer readFields filled
     surplus f fs = rw (offending-none etx (f ∷ fs))
 
-    complete : answer xs i zero [] ≡ Of (rowOf xs)
+    complete : answer xs i zero [] ≡ value (rowOf xs)
     unfolding answer readFields filled
     complete = refl
 
     module _ (m : ℕ) (f : Placed) (fs : List Placed) where
-      malformed : readField k (f .text) ≡ none → answer xs i (suc m) (f ∷ fs) ≡ Malformed (f .position)
+      malformed : readField k (f .text) ≡ none → answer xs i (suc m) (f ∷ fs) ≡ wrong (f .position)
       unfolding answer readFields filled form
       malformed e = rw (offending-next etx form (replicate m form) f fs, e)
 
@@ -109,11 +109,11 @@ module _ {k : Kind} {s : List ℕ} {from n : ℕ} {xs : List ℤ} {i p : ℕ} (h
     again : numbersAt k s from ≡ answer (length s) k xs i (suc (n - (i + 1))) (left s p)
     again = let e : n - i ≡ suc (n - (i + 1)) = omega arith in h .rest ∙ rw e
 
-    lacking : length s < p → Malformed (length s) ≡ numbersAt k s from
+    lacking : length s < p → wrong (length s) ≡ numbersAt k s from
     lacking m = sym (again ∙ rw (none-left s p m) (lack (length s) k xs i (n - (i + 1))))
 
     module _ (m : p ≤ length s) where
-      unread : readField k (fieldAt s p) ≡ none → Malformed p ≡ numbersAt k s from
+      unread : readField k (fieldAt s p) ≡ none → wrong p ≡ numbersAt k s from
       unfolding next
       unread e = sym (again ∙ rw (next-left s p m) (malformed (length s) k xs i (n - (i + 1)) next (left s (endAt s p + 1)) e))
 
@@ -125,11 +125,11 @@ module _ {k : Kind} {s : List ℕ} {from n : ℕ} {xs : List ℤ} {i p : ℕ} (h
     done : numbersAt k s from ≡ answer (length s) k xs i 0 (left s p)
     done = let e : n - i ≡ 0 = omega arith in h .rest ∙ rw e
 
-    too-many : p ≤ length s → Malformed p ≡ numbersAt k s from
+    too-many : p ≤ length s → wrong p ≡ numbersAt k s from
     unfolding next
     too-many m = sym (done ∙ rw (next-left s p m) (surplus (length s) k xs i next (left s (endAt s p + 1))))
 
-    all-read : length s < p → Of (rowOf xs) ≡ numbersAt k s from
+    all-read : length s < p → value (rowOf xs) ≡ numbersAt k s from
     all-read m = sym (done ∙ rw (none-left s p m) (complete (length s) k xs i))
 
 loop-holds : tie.Need-loop-holds Inv-loop μ-loop
@@ -165,7 +165,7 @@ loop-again c =
     let v = c .before .before in
     let f = v .before .before in
     let l = f .before .before .before in
-    let w : readField (l .before .before .before .args .kind) (fieldAt (l .before .before .before .args .s .now) (l .loop .next)) ≡ some (v .field .given .0 .0) = told-some _ _ (f .read-field .ensures .0) (v .field .given .1) in
+    let w : readField (l .before .before .before .args .kind) (fieldAt (l .before .before .before .args .s .now) (l .loop .next)) ≡ some (v .field .given .0 .0) = was-read _ _ (rw (v .field .given .1) at (f .read-field .ensures .0)) in
     record {
       most = omega arith;
       rest =
@@ -177,7 +177,7 @@ returns-2 : tie.Need-returns-2 Inv-loop μ-loop
 returns-2 c =
     let f = c .before .before .before in
     let l = f .before .before .before in
-    let w = told-none _ _ (f .read-field .ensures .0) (c .before .field2 .given .1) in
+    let w = was-wrong _ _ (rw (c .before .field2 .given .1) at (f .read-field .ensures .0)) in
     rw (w .1) (unread (l .loop .inv) (f .before .before .loop-test .taken) (f .before .if1 .left) (w .0))
 
 returns-3 : tie.Need-returns-3 Inv-loop μ-loop

@@ -10,7 +10,7 @@ use borrow.Author.Tests.{eq-eqb, ne-eqb}
 use lib.ListN.{length, drop}
 use Rattle.text.specs.Scan.{fieldAt, endAt}
 use Rattle.text.specs.Whole.{readWhole}
-use Rattle.text.proofs.Fields.{told-some, told-none}
+use Rattle.text.proofs.Read.{was-read, was-wrong}
 use Rattle.frame.specs.Fields.{Placed, fields, placed, placedMore}
 use Rattle.frame.proofs.Laws.{first-is}
 use Rattle.frame.proofs.Placed.{placed-texts, placed-only, placed-next}
@@ -55,14 +55,14 @@ unfolding promised
 returns c =
     let r = c .before .before in
     let a = r .before .before .args in
-    unread (a .asked) (a .body .now) (told-none 0 (readWhole (fieldAt (a .body .now) 0)) (r .read-whole .ensures .0) (c .enum-told .given .1) .0)
+    unread (a .asked) (a .body .now) (was-wrong 0 (readWhole (fieldAt (a .body .now) 0)) (rw (c .enum-told .given .1) at (r .read-whole .ensures .0)) .0)
 
 module _ (c : tie.After-whole) where
   abbrev start : tie.Start
   start = c .before .before .before .before
 
   number : readWhole (fieldAt (start .args .body .now) 0) ≡ some (c .whole .given .0 .0)
-  number = told-some _ _ (c .before .before .read-whole .ensures .0) (c .whole .given .1)
+  number = was-read _ _ (rw (c .whole .given .1) at (c .before .before .read-whole .ensures .0))
 
   ends : c .before .before .read-whole .result .end ≡ endAt (start .args .body .now) 0
   ends = c .before .before .read-whole .ensures .1 .0 _ (c .whole .given .1)

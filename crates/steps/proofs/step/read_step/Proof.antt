@@ -20,11 +20,10 @@ use Rattle.frame.proofs.Placed.{placed-texts, offending-none, offending-next}
 use Rattle.frame.proofs.Spaced.{left, some-left, none-left, next-left}
 use Rattle.steps.specs.declared.texts.Text.{Text}
 use Rattle.steps.specs.declared.step.Step.{Step}
-use Rattle.steps.specs.declared.step.StepRead.{StepRead}
-use Rattle.steps.specs.declared.step.StepRead.the-variants.{Of, Malformed}
+use Rattle.text.specs.Read.{Read, value, wrong, readAt}
+use Rattle.text.proofs.Read.{was-read, was-wrong}
 use Rattle.steps.specs.Text.{readText}
-use Rattle.steps.specs.Step.{stepFrom, readStep, stepAt, stepIn}
-use Rattle.steps.proofs.Laws.{told-some, told-none}
+use Rattle.steps.specs.Step.{stepFrom, readStep, stepIn}
 use Rattle.steps.proofs.step.read_step.Statement.{statement}
 use Rattle.steps.proofs.step.read_step.Tie as tie
 
@@ -98,20 +97,20 @@ module _ (etx : ℕ) where
   form : List ℕ → Bool
   form f = readsAs (λ t. true) (readText f)
 
-  answer : List ℕ → ℕ → ℕ → List Placed → StepRead
-  answer xs i m fs = stepAt (offending etx (replicate m form) fs) (filled xs i (few m (map (λ f. f .text) fs)))
+  answer : List ℕ → ℕ → ℕ → List Placed → Read Step
+  answer xs i m fs = readAt (offending etx (replicate m form) fs) (filled xs i (few m (map (λ f. f .text) fs)))
 
   module _ (xs : List ℕ) (i : ℕ) where
-    complete : (m : ℕ) → answer xs i m [] ≡ Of (stepFrom xs)
+    complete : (m : ℕ) → answer xs i m [] ≡ value (stepFrom xs)
     unfolding answer filled
     complete m = rw (few-none m)
 
-    surplus : (f : Placed) (fs : List Placed) → answer xs i 0 (f ∷ fs) ≡ Malformed (f .position)
+    surplus : (f : Placed) (fs : List Placed) → answer xs i 0 (f ∷ fs) ≡ wrong (f .position)
     unfolding answer filled
     surplus f fs = rw (few-surplus (f .text) (map (λ f. f .text) fs), offending-none etx (f ∷ fs))
 
     module _ (m : ℕ) (f : Placed) (fs : List Placed) where
-      malformed : readText (f .text) ≡ none → answer xs i (suc m) (f ∷ fs) ≡ Malformed (f .position)
+      malformed : readText (f .text) ≡ none → answer xs i (suc m) (f ∷ fs) ≡ wrong (f .position)
       unfolding answer filled form
       malformed e = rw (offending-next etx form (replicate m form) f fs, few-next m (f .text) (map (λ f. f .text) fs), e)
 
@@ -134,7 +133,7 @@ abbrev μ-loop : tie.MeasureT-loop
 μ-loop s from texts₀ next₀ i₀ texts next i = 5 - i
 
 module _ {s : List ℕ} {from : ℕ} {xs : List ℕ} {i p : ℕ} (h : Begun s from xs i p) where
-  all-read : length s < p → Of (stepFrom xs) ≡ stepIn s from
+  all-read : length s < p → value (stepFrom xs) ≡ stepIn s from
   all-read l = sym (h .rest ∙ rw (none-left s p l) (complete (length s) xs i (5 - i)))
 
   module _ (l : p ≤ length s) where
@@ -142,7 +141,7 @@ module _ {s : List ℕ} {from : ℕ} {xs : List ℕ} {i p : ℕ} (h : Begun s fr
     next : Placed
     next = record { position = p; text = fieldAt s p }
 
-    too-many : i ≡ 5 → Malformed p ≡ stepIn s from
+    too-many : i ≡ 5 → wrong p ≡ stepIn s from
     unfolding next
     too-many e =
         let z : 5 - i ≡ 0 = omega arith in
@@ -156,7 +155,7 @@ module _ {s : List ℕ} {from : ℕ} {xs : List ℕ} {i p : ℕ} (h : Begun s fr
           let e : 5 - i ≡ suc (5 - (i + 1)) = omega arith in
           h .rest ∙ rw (e, next-left s p l)
 
-      unread : readText (fieldAt s p) ≡ none → Malformed p ≡ stepIn s from
+      unread : readText (fieldAt s p) ≡ none → wrong p ≡ stepIn s from
       unfolding next
       unread e = sym (again ∙ malformed (length s) xs i (5 - (i + 1)) next (left s (endAt s p + 1)) e)
 
@@ -199,13 +198,13 @@ loop-again c =
     let r = v .before .before in
     let l = r .before .before .before in
     rw (r .read-text .ensures .1)
-    (read (l .loop .inv) (r .before .before .loop-test .taken) (r .before .if1 .left) (told-some _ _ (r .read-text .ensures .0) (v .text .given .1)))
+    (read (l .loop .inv) (r .before .before .loop-test .taken) (r .before .if1 .left) (was-read _ _ (rw (v .text .given .1) at (r .read-text .ensures .0))))
 
 returns-2 : tie.Need-returns-2 Inv-loop μ-loop
 returns-2 c =
     let r = c .before .before .before in
     let l = r .before .before .before in
-    let w = told-none _ _ (r .read-text .ensures .0) (c .before .text2 .given .1) in
+    let w = was-wrong _ _ (rw (c .before .text2 .given .1) at (r .read-text .ensures .0)) in
     rw (w .1) (unread (l .loop .inv) (r .before .before .loop-test .taken) (r .before .if1 .left) (w .0))
 
 returns-3 : tie.Need-returns-3 Inv-loop μ-loop

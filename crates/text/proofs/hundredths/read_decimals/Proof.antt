@@ -4,10 +4,12 @@ use mathlib.Core.Path.{_≡_, refl, sym, ap, subst}
 use native.Mathlib.Omega.{arith}
 use borrow.Author.Needs.{needs}
 use lib.ListN.{length, drop}
+use Rattle.text.specs.Read.{readAt}
 use Rattle.text.specs.Scan.{fieldAt}
-use Rattle.text.specs.Whole.{readWhole, wholeAt}
+use Rattle.text.specs.Whole.{readWhole}
 use Rattle.text.proofs.Decimals.{Below, whole-below}
-use Rattle.text.proofs.Fields.{part-length, decimals-none, decimals-one, decimals-two, decimals-more, no-whole, told-some, told-none}
+use Rattle.text.proofs.Fields.{part-length, decimals-none, decimals-one, decimals-two, decimals-more, no-whole}
+use Rattle.text.proofs.Read.{was-read, was-wrong}
 use Rattle.text.proofs.hundredths.read_decimals.Statement.{statement}
 use Rattle.text.proofs.hundredths.read_decimals.Tie as tie
 
@@ -16,7 +18,7 @@ returns c =
     let r = c .before .before in
     let s = r .before .before in
     let f = fieldAt (s .args .s .now) (s .args .from) in
-    (ap (wholeAt (s .args .from)) (sym (decimals-none f (told-none _ _ (r .read-whole .ensures .0) (c .enum-told .given .1) .0))), λ v e. no-whole e)
+    (ap (readAt (s .args .from)) (sym (decimals-none f (was-wrong _ _ (rw (c .enum-told .given .1) at (r .read-whole .ensures .0)) .0))), λ v e. no-whole e)
 
 mul-t10 : tie.Need-mul-t10
 mul-t10 c =
@@ -25,7 +27,7 @@ mul-t10 c =
     let s = r .before .before in
     let f = fieldAt (s .args .s .now) (s .args .from) in
     let l : length f ≡ 1 = omega (arith, part-length 32 refl (drop (s .args .from) (s .args .s .now)), r .read-whole .ensures .1 .0 _ (w .whole .given .1)) in
-    let b : w .whole .given .0 .0 < 10 ^ length f = subst (Below (10 ^ length f)) (told-some _ (readWhole f) (r .read-whole .ensures .0) (w .whole .given .1)) (whole-below f) in
+    let b : w .whole .given .0 .0 < 10 ^ length f = subst (Below (10 ^ length f)) (was-read _ (readWhole f) (rw (w .whole .given .1) at (r .read-whole .ensures .0))) (whole-below f) in
     omega (arith, subst (λ (n : ℕ). w .whole .given .0 .0 < 10 ^ n) l b)
 
 returns-2 : tie.Need-returns-2
@@ -36,7 +38,7 @@ returns-2 c =
     let end = r .read-whole .ensures .1 .0 _ (w .whole .given .1) in
     let f = fieldAt (s .args .s .now) (s .args .from) in
     let l : length f ≡ 1 = omega (arith, part-length 32 refl (drop (s .args .from) (s .args .s .now)), end) in
-    (ap (wholeAt (s .args .from)) (sym (decimals-one f (told-some _ _ (r .read-whole .ensures .0) (w .whole .given .1)) l)), λ v e. end)
+    (ap (readAt (s .args .from)) (sym (decimals-one f (was-read _ _ (rw (w .whole .given .1) at (r .read-whole .ensures .0))) l)), λ v e. end)
 
 returns-3 : tie.Need-returns-3
 returns-3 c =
@@ -46,7 +48,7 @@ returns-3 c =
     let end = r .read-whole .ensures .1 .0 _ (w .whole .given .1) in
     let f = fieldAt (s .args .s .now) (s .args .from) in
     let l : length f ≡ 2 = omega (arith, part-length 32 refl (drop (s .args .from) (s .args .s .now)), end) in
-    (ap (wholeAt (s .args .from)) (sym (decimals-two f (told-some _ _ (r .read-whole .ensures .0) (w .whole .given .1)) l)), λ v e. end)
+    (ap (readAt (s .args .from)) (sym (decimals-two f (was-read _ _ (rw (w .whole .given .1) at (r .read-whole .ensures .0))) l)), λ v e. end)
 
 returns-4 : tie.Need-returns-4
 returns-4 c =
@@ -55,7 +57,7 @@ returns-4 c =
     let s = r .before .before in
     let end = r .read-whole .ensures .1 .0 _ (w .whole .given .1) in
     let l = part-length 32 refl (drop (s .args .from) (s .args .s .now)) in (
-      ap (wholeAt (s .args .from)) (sym (decimals-more (fieldAt (s .args .s .now) (s .args .from)) (told-some _ _ (r .read-whole .ensures .0) (w .whole .given .1)) (λ z. c .before .if1 .left (omega (arith, z, l, end))) (λ z. c .if2 .left (omega (arith, z, l, end))))),
+      ap (readAt (s .args .from)) (sym (decimals-more (fieldAt (s .args .s .now) (s .args .from)) (was-read _ _ (rw (w .whole .given .1) at (r .read-whole .ensures .0))) (λ z. c .before .if1 .left (omega (arith, z, l, end))) (λ z. c .if2 .left (omega (arith, z, l, end))))),
       λ v e. no-whole e,
     )
 

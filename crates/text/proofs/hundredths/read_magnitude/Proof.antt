@@ -8,7 +8,8 @@ use Prim.Native.Nat.{ℕ, _+_, _*_}
 use Rattle.text.specs.Scan.{fieldAt}
 use Rattle.text.specs.Hundredths.{joined, decimals}
 use Rattle.text.specs.declared.hundredths.Magnitude.the-variants.{Size}
-use Rattle.text.proofs.Fields.{field-none, inside, field-whole, field-other, field-point, no-magnitude, told-some, told-none}
+use Rattle.text.proofs.Fields.{field-none, inside, field-whole, field-other, field-point, no-magnitude}
+use Rattle.text.proofs.Read.{was-read, was-wrong}
 use Rattle.text.proofs.hundredths.read_magnitude.Statement.{statement}
 use Rattle.text.proofs.hundredths.read_magnitude.Tie as tie
 
@@ -56,7 +57,7 @@ returns-4 c =
     let d = e .before .before .before in
     let s = d .before .before in
     let p = field-point (s .args .s .now) (s .args .from) (d .read-digits .result .end) (d .read-digits .ensures .0 .0) (d .read-digits .ensures .1 .0) (sym (r .before .before .before .if2 .left) ∙ e .is-end .ensures) (e .before .if1 .left) (r .before .if3 .left) in (
-      ap (λ (v : ℕ). joined (some v) (some (c .before .whole .given .0 .0))) (d .read-digits .ensures .0 .1) ∙ ap (joined (some _)) (sym (told-some _ (decimals (fieldAt (s .args .s .now) (d .read-digits .result .end + 1))) (r .read-decimals .ensures .0) (c .before .whole .given .1))) ∙ sym (p .0),
+      ap (λ (v : ℕ). joined (some v) (some (c .before .whole .given .0 .0))) (d .read-digits .ensures .0 .1) ∙ ap (joined (some _)) (sym (was-read _ (decimals (fieldAt (s .args .s .now) (d .read-digits .result .end + 1))) (rw (c .before .whole .given .1) at (r .read-decimals .ensures .0)))) ∙ sym (p .0),
       λ m _. r .read-decimals .ensures .1 _ (c .before .whole .given .1) ∙ p .1,
     )
 
@@ -67,7 +68,7 @@ returns-5 c =
     let d = e .before .before .before in
     let s = d .before .before in
     let p = field-point (s .args .s .now) (s .args .from) (d .read-digits .result .end) (d .read-digits .ensures .0 .0) (d .read-digits .ensures .1 .0) (sym (r .before .before .before .if2 .left) ∙ e .is-end .ensures) (e .before .if1 .left) (r .before .if3 .left) in
-    (ap (joined (some _)) (sym (told-none _ (decimals (fieldAt (s .args .s .now) (d .read-digits .result .end + 1))) (r .read-decimals .ensures .0) (c .enum-told .given .1) .0)) ∙ sym (p .0), λ m e. no-magnitude e)
+    (ap (joined (some _)) (sym (was-wrong _ (decimals (fieldAt (s .args .s .now) (d .read-digits .result .end + 1))) (rw (c .enum-told .given .1) at (r .read-decimals .ensures .0)) .0)) ∙ sym (p .0), λ m e. no-magnitude e)
 
 pub read-magnitude-spec : {M : Type 1} → statement M
 read-magnitude-spec =
