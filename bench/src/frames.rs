@@ -1,6 +1,6 @@
 //! Frames, calls and memory from a generator with a fixed seed.
 
-use crate::reference::{lrc, Tables, PROGRAMS};
+use crate::reference::{lrc, Tables, PROGRAMS, TEXT};
 use crate::reference::{ABSENT, COMMAND, END, ETX, LENGTH, LRC, NUMBER, SHAPE, START, STATION, STRAY, STX, VALUE};
 
 /// The stations of the benchmark set.
@@ -74,7 +74,7 @@ impl Frames {
     }
 }
 
-/// The benchmark set: all sixteen commands in all spellings, and in each ten frames one that is damaged.
+/// The benchmark set: the sixteen commands of document 01 in all spellings, and in each ten frames one that is damaged.
 pub fn benchmark_set() -> Frames {
     let mut random = Random::new(13);
     let mut frames = Frames { bytes: Vec::new(), ends: vec![0] };
@@ -82,8 +82,8 @@ pub fn benchmark_set() -> Frames {
         let bad = random.below(10);
         for place in 0..10 {
             let slice = match place == bad {
-                true => any_damaged(&mut random, &STATIONS),
-                false => good(&mut random, &STATIONS),
+                true => any_damaged(&mut random, &STATIONS, &COMMANDS),
+                false => good(&mut random, &STATIONS, &COMMANDS),
             };
             frames.bytes.extend_from_slice(&slice);
             frames.ends.push(frames.bytes.len());
@@ -92,10 +92,12 @@ pub fn benchmark_set() -> Frames {
     frames
 }
 
-/// The data of a command and their range; that of a whole number begins at 0.
+/// The data of a command and their range; that of a whole number begins at 0. LNA has no texts, SNA has one to five.
 #[derive(Clone, Copy)]
 enum Data {
     None,
+    NoTexts,
+    Texts,
     Whole { greatest: i32 },
     Hundredths { fields: usize, least: i32, greatest: i32 },
 }
@@ -115,6 +117,7 @@ const fn command(name: &'static [u8], least: i32, greatest: i32, data: Data) -> 
 const TIMER: Data = Data::Hundredths { fields: 1, least: 0, greatest: 999 };
 const ROW: Data = Data::Hundredths { fields: 4, least: -999_999, greatest: 999_999 };
 
+/// The commands of document 01.
 const COMMANDS: [Command; 16] = [
     command(b"LNT", 0, 15, Data::None),
     command(b"SNT", 0, 15, TIMER),
@@ -134,13 +137,23 @@ const COMMANDS: [Command; 16] = [
     command(b"SNBD", 0, 15, Data::Whole { greatest: 255 }),
 ];
 
-/// How many fields a command expects behind its name.
-pub fn expected_fields(name: &[u8]) -> Option<usize> {
-    let command = COMMANDS.iter().find(|command| command.name == name)?;
+/// The commands of request E3.
+const STEPS: [Command; 2] = [command(b"LNA", 0, 255, Data::NoTexts), command(b"SNA", 0, 255, Data::Texts)];
+
+/// The steps that half of the requests name, so that many of those read were written.
+const USUAL_STEPS: [i32; 6] = [0, 1, 2, 9, 254, 255];
+
+/// The most texts that a step has.
+const MOST_TEXTS: usize = 5;
+
+/// How many fields a command expects behind its name, at least and at most.
+pub fn expected_fields(name: &[u8]) -> Option<(usize, usize)> {
+    let command = COMMANDS.iter().chain(&STEPS).find(|command| command.name == name)?;
     Some(match command.data {
-        Data::None => 1,
-        Data::Whole { .. } => 2,
-        Data::Hundredths { fields, .. } => 1 + fields,
+        Data::None | Data::NoTexts => (1, 1),
+        Data::Texts => (2, 1 + MOST_TEXTS),
+        Data::Whole { .. } => (2, 2),
+        Data::Hundredths { fields, .. } => (1 + fields, 1 + fields),
     })
 }
 
@@ -224,6 +237,37 @@ fn hundredths(random: &mut Random, value: i32) -> Vec<u8> {
     text
 }
 
+/// Characters in that number: any, or the first and the last of them.
+fn characters(random: &mut Random, length: usize) -> Vec<u8> {
+    let mut text = vec![0; length];
+    for byte in &mut text {
+        *byte = match random.one_in(4) {
+            true => random.pick(b"!~"),
+            false => random.between(0x21, 0x7E) as u8,
+        };
+    }
+    text
+}
+
+/// A text of a step.
+fn text(random: &mut Random) -> Vec<u8> {
+    let length = match random.one_in(4) {
+        true => TEXT,
+        false => 1 + random.below(TEXT),
+    };
+    characters(random, length)
+}
+
+/// A text that no step has: empty, or of more than 8 characters, mostly of 9.
+fn bad_text(random: &mut Random) -> Vec<u8> {
+    let length = match random.below(4) {
+        0 | 1 => 0,
+        2 => TEXT + 1,
+        _ => TEXT + 1 + random.below(12),
+    };
+    characters(random, length)
+}
+
 /// The station of one of the fitted slots, or any where there is none.
 fn station(random: &mut Random, stations: &[u8; 4]) -> Vec<u8> {
     let fitted: Vec<u8> = stations.iter().copied().filter(|&station| station != 0).collect();
@@ -235,10 +279,18 @@ fn station(random: &mut Random, stations: &[u8; 4]) -> Vec<u8> {
 
 fn request(random: &mut Random, stations: &[u8; 4], command: Command) -> Request {
     let station = station(random, stations);
-    let number = random.between(command.least, command.greatest);
+    let number = match command.data {
+        Data::NoTexts | Data::Texts if random.one_in(2) => random.pick(&USUAL_STEPS),
+        _ => random.between(command.least, command.greatest),
+    };
     let mut fields = vec![command.name.to_vec(), whole(random, number)];
     match command.data {
-        Data::None => {}
+        Data::None | Data::NoTexts => {}
+        Data::Texts => {
+            for _ in 0..1 + random.below(MOST_TEXTS) {
+                fields.push(text(random));
+            }
+        }
         Data::Whole { greatest } => {
             let value = value(random, 0, greatest);
             fields.push(whole(random, value));
@@ -253,8 +305,9 @@ fn request(random: &mut Random, stations: &[u8; 4], command: Command) -> Request
     Request { station, command, fields }
 }
 
-fn any_request(random: &mut Random, stations: &[u8; 4]) -> Request {
-    let command = random.pick(&COMMANDS);
+/// A request with one of the commands.
+fn any_request(random: &mut Random, stations: &[u8; 4], commands: &[Command]) -> Request {
+    let command = random.pick(commands);
     request(random, stations, command)
 }
 
@@ -265,8 +318,8 @@ fn bounded_request(random: &mut Random, stations: &[u8; 4]) -> Request {
     request(random, stations, command)
 }
 
-fn good(random: &mut Random, stations: &[u8; 4]) -> Vec<u8> {
-    any_request(random, stations).frame()
+fn good(random: &mut Random, stations: &[u8; 4], commands: &[Command]) -> Vec<u8> {
+    any_request(random, stations, commands).frame()
 }
 
 const BAD_STATIONS: [&[u8]; 14] =
@@ -286,11 +339,12 @@ const BAD_HUNDREDTHS: [&[u8]; 24] = [
     b"1.234", b"0.000", b"1.-5", b"1-", b"1,5", b"1e2", b"1.2.3", b"1..2", b"1.a", b"1.5a",
 ];
 
-/// A frame that is damaged so that an arm's box gives this refusal, from LENGTH to VALUE.
-fn damaged(random: &mut Random, stations: &[u8; 4], refusal: u8) -> Vec<u8> {
+/// A frame that is damaged so that an arm's box gives this refusal, from LENGTH to VALUE. LNA and SNA never give VALUE,
+/// so there it has another command.
+fn damaged(random: &mut Random, stations: &[u8; 4], commands: &[Command], refusal: u8) -> Vec<u8> {
     let mut request = match refusal {
         VALUE => bounded_request(random, stations),
-        _ => any_request(random, stations),
+        _ => any_request(random, stations, commands),
     };
     match refusal {
         STATION if random.one_in(2) => {
@@ -304,6 +358,7 @@ fn damaged(random: &mut Random, stations: &[u8; 4], refusal: u8) -> Vec<u8> {
             request.station = decimal(i32::from(random.pick(&absent)));
         }
         COMMAND => misname(random, &mut request.fields[0]),
+        SHAPE if matches!(request.command.data, Data::Texts) => misshape_step(random, &mut request),
         SHAPE => misshape(random, &mut request),
         NUMBER => {
             number_out_of_range(random, &mut request);
@@ -340,9 +395,9 @@ fn damaged(random: &mut Random, stations: &[u8; 4], refusal: u8) -> Vec<u8> {
     slice
 }
 
-fn any_damaged(random: &mut Random, stations: &[u8; 4]) -> Vec<u8> {
+fn any_damaged(random: &mut Random, stations: &[u8; 4], commands: &[Command]) -> Vec<u8> {
     let refusal = random.between(i32::from(LENGTH), i32::from(VALUE)) as u8;
-    damaged(random, stations, refusal)
+    damaged(random, stations, commands, refusal)
 }
 
 /// Makes it a frame of 256 to 300 bytes whose LRC is right.
@@ -387,6 +442,29 @@ fn misshape(random: &mut Random, request: &mut Request) {
     }
 }
 
+/// Takes the command away, and at times the step, adds a sixth text, or puts a malformed text in place of the step or of
+/// a text.
+fn misshape_step(random: &mut Random, request: &mut Request) {
+    match random.below(4) {
+        0 => request.fields.truncate(1 + random.below(2)),
+        1 => {
+            while request.fields.len() < 2 + MOST_TEXTS {
+                request.fields.push(text(random));
+            }
+            let extra = match random.one_in(2) {
+                true => text(random),
+                false => bad_text(random),
+            };
+            request.fields.push(extra);
+        }
+        2 => request.fields[1] = random.pick(&BAD_WHOLE).to_vec(),
+        _ => {
+            let place = 2 + random.below(request.fields.len() - 2);
+            request.fields[place] = bad_text(random);
+        }
+    }
+}
+
 fn number_out_of_range(random: &mut Random, request: &mut Request) {
     let Command { least, greatest, .. } = request.command;
     let number = match random.below(4) {
@@ -401,7 +479,7 @@ fn number_out_of_range(random: &mut Random, request: &mut Request) {
 /// Register data and offsets cannot leave their ranges in a form that is read.
 fn has_values_out_of_range(command: &Command) -> bool {
     match command.data {
-        Data::None => false,
+        Data::None | Data::NoTexts | Data::Texts => false,
         Data::Whole { greatest } => greatest < 9999,
         Data::Hundredths { greatest, .. } => greatest < 999_999,
     }
@@ -409,7 +487,7 @@ fn has_values_out_of_range(command: &Command) -> bool {
 
 fn data_out_of_range(random: &mut Random, request: &mut Request) {
     request.fields[2] = match request.command.data {
-        Data::None => return,
+        Data::None | Data::NoTexts | Data::Texts => return,
         Data::Whole { greatest } => {
             let value = match random.one_in(3) {
                 true => greatest + 1,
@@ -460,12 +538,9 @@ pub fn call(random: &mut Random, stations: &[u8; 4]) -> Call {
     } else if random.one_in(12) {
         Call::OutputsOn(slot(random))
     } else {
-        let slice = loop {
-            let slice = served(random, stations);
-            // The comparison leaves LNA and SNA out.
-            if !slice.windows(3).any(|name| name == b"LNA" || name == b"SNA") {
-                break slice;
-            }
+        let slice = match random.one_in(3) {
+            true => served(random, stations, &STEPS),
+            false => served(random, stations, &COMMANDS),
         };
         let room = match random.one_in(20) {
             true => random.pick(&[0, 1, 6, 32, 62, 63]),
@@ -518,7 +593,7 @@ pub fn lent(random: &mut Random, often: usize) -> usize {
 }
 
 /// Memory that no call leaves: one slot is unfitted, and the ports, the numbers of outputs on and the START programs are
-/// any.
+/// any, these with few or many characters.
 pub fn other_memory(random: &mut Random) -> Tables {
     let mut tables = Tables { stations: STATIONS, ..Tables::new() };
     tables.stations[random.below(4)] = 0;
@@ -526,6 +601,15 @@ pub fn other_memory(random: &mut Random) -> Tables {
     random.fill(tables.outputs.as_flattened_mut());
     random.fill(tables.memory.as_flattened_mut());
     random.fill(&mut tables.programs);
+    let others = random.pick(&[2, 10, 50]);
+    for byte in &mut tables.programs {
+        if random.one_in(8) {
+            *byte = random.pick(&[0x00, 0x20, 0x21, 0x7E, 0x7F, 0x80, 0xFF]);
+        }
+        if !random.one_in(others) {
+            *byte = random.between(0x21, 0x7E) as u8;
+        }
+    }
     for on in &mut tables.on {
         let any = random.next() as u16;
         *on = random.pick(&[0, u16::MAX, any]);
@@ -534,13 +618,13 @@ pub fn other_memory(random: &mut Random) -> Tables {
 }
 
 /// A slice for serving: good, damaged in one or more ways, changed at random, or random altogether.
-fn served(random: &mut Random, stations: &[u8; 4]) -> Vec<u8> {
+fn served(random: &mut Random, stations: &[u8; 4], commands: &[Command]) -> Vec<u8> {
     match random.below(24) {
-        0..=9 => good(random, stations),
-        10..=13 => any_damaged(random, stations),
-        14..=17 => faulty(random, stations),
-        18..=21 => changed(random, stations),
-        22 => random_text(random, stations),
+        0..=9 => good(random, stations, commands),
+        10..=13 => any_damaged(random, stations, commands),
+        14..=17 => faulty(random, stations, commands),
+        18..=21 => changed(random, stations, commands),
+        22 => random_text(random, stations, commands),
         _ => {
             let mut slice = vec![0; random.below(301)];
             random.fill(&mut slice);
@@ -553,8 +637,8 @@ fn served(random: &mut Random, stations: &[u8; 4]) -> Vec<u8> {
 }
 
 /// A frame with one to four faults, so that some stand beside others; its LRC is right.
-fn faulty(random: &mut Random, stations: &[u8; 4]) -> Vec<u8> {
-    let mut request = any_request(random, stations);
+fn faulty(random: &mut Random, stations: &[u8; 4], commands: &[Command]) -> Vec<u8> {
+    let mut request = any_request(random, stations, commands);
     let faults = 1 + random.below(4);
     for _ in 0..faults {
         fault(random, &mut request);
@@ -577,6 +661,7 @@ fn fault(random: &mut Random, request: &mut Request) {
         0..=4 if count > 1 => {
             let place = 1 + random.below(count - 1);
             request.fields[place] = match random.below(3) {
+                _ if place > 1 && matches!(request.command.data, Data::Texts) => bad_text(random),
                 0 => Vec::new(),
                 1 => random.pick(&BAD_WHOLE).to_vec(),
                 _ => random.pick(&BAD_HUNDREDTHS).to_vec(),
@@ -610,14 +695,14 @@ fn dress(random: &mut Random, slice: &mut [u8]) {
 }
 
 /// Bytes that text fields consist of, and some that they do not.
-const LETTERS: &[u8] = b"0123456789.-  LSNTDLIOB0123456789 .-+,/:;~!x";
+const LETTERS: &[u8] = b"0123456789.-  LSNATDLIOB0123456789 .-+,/:;~!x";
 
 /// A frame with random text behind the station.
-fn random_text(random: &mut Random, stations: &[u8; 4]) -> Vec<u8> {
+fn random_text(random: &mut Random, stations: &[u8; 4], commands: &[Command]) -> Vec<u8> {
     let mut text = station(random, stations);
     text.push(b' ');
     if !random.one_in(4) {
-        text.extend_from_slice(random.pick(&COMMANDS).name);
+        text.extend_from_slice(random.pick(commands).name);
         text.push(b' ');
     }
     let length = match random.below(3) {
@@ -632,10 +717,10 @@ fn random_text(random: &mut Random, stations: &[u8; 4]) -> Vec<u8> {
 }
 
 /// A good or a damaged frame with some bytes changed, added or taken away, in most cases with the LRC repaired.
-fn changed(random: &mut Random, stations: &[u8; 4]) -> Vec<u8> {
+fn changed(random: &mut Random, stations: &[u8; 4], commands: &[Command]) -> Vec<u8> {
     let mut slice = match random.one_in(4) {
-        true => any_damaged(random, stations),
-        false => good(random, stations),
+        true => any_damaged(random, stations, commands),
+        false => good(random, stations, commands),
     };
     for _ in 0..1 + random.below(3) {
         change(random, &mut slice);
@@ -698,12 +783,16 @@ mod tests {
     #[test]
     fn good_and_damaged() {
         let (mut random, mut tables, mut reply) = (Random::new(3), fitted(), [0; 64]);
-        for _ in 0..2000 {
-            let slice = good(&mut random, &STATIONS);
-            assert_eq!(serve(&mut tables, &slice, &mut reply).number, 0, "{slice:02X?}");
-            for refusal in LENGTH..=VALUE {
-                let slice = damaged(&mut random, &STATIONS, refusal);
-                assert_eq!(serve(&mut tables, &slice, &mut reply).number, refusal, "{slice:02X?}");
+        // No step is empty, so no good LNA is refused.
+        tables.programs.fill(0x21);
+        for commands in [&COMMANDS[..], &STEPS] {
+            for _ in 0..2000 {
+                let slice = good(&mut random, &STATIONS, commands);
+                assert_eq!(serve(&mut tables, &slice, &mut reply).number, 0, "{slice:02X?}");
+                for refusal in LENGTH..=VALUE {
+                    let slice = damaged(&mut random, &STATIONS, commands, refusal);
+                    assert_eq!(serve(&mut tables, &slice, &mut reply).number, refusal, "{slice:02X?}");
+                }
             }
         }
     }

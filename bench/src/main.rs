@@ -1,5 +1,5 @@
 //! Compares the library llamput with a bytewise server: every answer on 100,000 frames and on a million further calls,
-//! the numbers of outputs on from other memory too, then the time of serving those frames.
+//! the numbers of outputs on and the START programs from other memory too, then the time of serving those frames.
 //!
 //! The optional argument is the number of timed rounds.
 
@@ -14,25 +14,29 @@ use std::process::ExitCode;
 use std::time::Instant;
 
 use frames::{Call, Frames, Random, FRAMES, GREATEST_ROOM, STATIONS};
-use kinds::KINDS;
-use reference::{lrc, ones, Count, Sent, Tables, INPUT, REPLY_ROOM};
+use kinds::{KINDS, OUTCOMES};
+use reference::{lrc, ones, Count, Sent, Tables, EMPTY, INPUT, REPLY_ROOM};
 
 const CALLS: usize = 1_000_000;
 /// How often the comparison begins with other memory.
 const STARTS: usize = 100;
 const ROUNDS: usize = 301;
 
-/// How often each number from 0 to 14 was returned, to any call and to those that ask for the outputs on, and each kind
-/// of position.
+/// How many numbers there are, with 0.
+const NUMBERS: usize = 17;
+
+/// How often each number was returned, to any call and to those that ask for the outputs on, each kind of position, and
+/// each outcome of LNA and SNA.
 struct Counts {
-    numbers: [usize; 15],
-    asked: [usize; 15],
+    numbers: [usize; NUMBERS],
+    asked: [usize; NUMBERS],
     kinds: [usize; KINDS],
+    outcomes: [usize; OUTCOMES.len()],
 }
 
 impl Counts {
     fn new() -> Counts {
-        Counts { numbers: [0; 15], asked: [0; 15], kinds: [0; KINDS] }
+        Counts { numbers: [0; NUMBERS], asked: [0; NUMBERS], kinds: [0; KINDS], outcomes: [0; OUTCOMES.len()] }
     }
 
     fn returned(&mut self, number: u8) {
@@ -44,10 +48,20 @@ impl Counts {
         self.asked[usize::from(count.number)] += 1;
     }
 
-    fn served(&mut self, slice: &[u8], sent: Sent) {
+    fn served(&mut self, slice: &[u8], sent: Sent, area: &[u8]) {
         self.returned(sent.number);
         for kind in kinds::kinds(slice, sent.number, sent.position) {
             self.kinds[kind] += 1;
+        }
+        if let Some(outcome) = kinds::outcome_of(slice, sent.number, &area[..sent.length]) {
+            self.outcomes[outcome] += 1;
+        }
+    }
+
+    fn every_outcome(&self) -> Result<(), String> {
+        match OUTCOMES.iter().zip(self.outcomes).find(|(_, count)| *count == 0) {
+            Some((outcome, _)) => Err(format!("no call reaches {outcome}")),
+            None => Ok(()),
         }
     }
 }
@@ -65,15 +79,17 @@ struct Pair {
     /// Whether the tables are those of a box, so that the numbers of outputs on are true; other memory is none until a
     /// setup.
     is_box: bool,
+    /// The reply area as both sides left it when they last served a slice.
+    area: [u8; GREATEST_ROOM],
 }
 
 impl Pair {
     fn new() -> Pair {
-        Pair { gateway: Tables::new(), reference: Tables::new(), is_box: true }
+        Pair { gateway: Tables::new(), reference: Tables::new(), is_box: true, area: [0; GREATEST_ROOM] }
     }
 
     fn other(memory: Tables) -> Pair {
-        Pair { gateway: memory.clone(), reference: memory, is_box: false }
+        Pair { gateway: memory.clone(), reference: memory, is_box: false, area: [0; GREATEST_ROOM] }
     }
 
     /// Lends a memory of that length for the START programs: the one that was lent, cut or with further bytes.
@@ -81,6 +97,19 @@ impl Pair {
         for tables in [&mut self.gateway, &mut self.reference] {
             tables.programs.resize(length, 0x21);
         }
+    }
+
+    /// Lends a memory of that length for one call, and then again the one before.
+    fn lend_once<T>(&mut self, length: usize, call: impl FnOnce(&mut Pair) -> T) -> T {
+        if length == self.reference.programs.len() {
+            return call(self);
+        }
+        let before = self.reference.programs.clone();
+        self.lend(length);
+        let made = call(self);
+        self.gateway.programs.clone_from(&before);
+        self.reference.programs = before;
+        made
     }
 
     fn agree(&mut self) -> Result<(), String> {
@@ -217,6 +246,7 @@ impl Pair {
             return Err(format!("{}\n  bytes past the length were changed", context()));
         }
         self.agree().map_err(|text| format!("{}\n  {text}", context()))?;
+        self.area = right;
         Ok(reference)
     }
 }
@@ -247,7 +277,7 @@ fn compare_frames(frames: &Frames) -> Result<Counts, String> {
     }
     for (index, slice) in frames.iter().enumerate() {
         let sent = pair.serve(slice, REPLY_ROOM, &mut random).map_err(|text| format!("frame {index}: {text}"))?;
-        counts.served(slice, sent);
+        counts.served(slice, sent, &pair.area);
     }
     if counts.numbers[0] != FRAMES - FRAMES / 10 {
         return Err(format!("{} frames were accepted, not nine in ten", counts.numbers[0]));
@@ -273,25 +303,25 @@ fn compare_calls() -> Result<Counts, String> {
             Call::Input { slot, port, byte } => pair.input(slot, port, byte).map(|number| counts.returned(number)),
             Call::OutputsOn(slot) => pair.outputs_on(slot).map(|count| counts.asked(count)),
             Call::Serve { slice, room } => {
-                let length = pair.reference.programs.len();
-                pair.lend(frames::lent(&mut random, 100));
-                let sent = pair.serve(&slice, room, &mut random);
-                pair.lend(length);
-                sent.map(|sent| counts.served(&slice, sent))
+                let length = frames::lent(&mut random, 100);
+                let sent = pair.lend_once(length, |pair| pair.serve(&slice, room, &mut random));
+                sent.map(|sent| counts.served(&slice, sent, &pair.area))
             }
         };
         made.map_err(|text| format!("call {index}: {text}"))?;
     }
-    if let Some(number) = (0..=14).find(|&number| counts.numbers[number] == 0) {
+    // No call gives 15, which is for readers of replies.
+    if let Some(number) = (0..=14).chain([usize::from(EMPTY)]).find(|&number| counts.numbers[number] == 0) {
         return Err(format!("no call reaches refusal {number}"));
     }
     if let Some(number) = [0, INPUT].into_iter().find(|&number| counts.asked[usize::from(number)] == 0) {
         return Err(format!("no call that asks for the outputs on gets {number}"));
     }
-    match (0..KINDS).find(|&kind| counts.kinds[kind] == 0) {
-        Some(kind) => Err(format!("no call reaches the position {}", kinds::name(kind))),
-        None => Ok(counts),
+    if let Some((name, _)) = kinds::names().zip(counts.kinds).find(|(_, count)| *count == 0) {
+        return Err(format!("no call reaches the position {name}"));
     }
+    counts.every_outcome()?;
+    Ok(counts)
 }
 
 /// Turns the outputs of each arm on and off by signals and by ports, so that each number from 0 to 256 comes up.
@@ -321,8 +351,9 @@ fn compare_every_number() -> Result<(), String> {
 }
 
 /// Makes calls from memory that no call leaves, each time up to a setup.
-fn compare_other_memory() -> Result<(), String> {
+fn compare_other_memory() -> Result<Counts, String> {
     let mut random = Random::new(4);
+    let mut counts = Counts::new();
     let mut wraps = Wraps { above: false, below: false };
     for start in 0..STARTS {
         let mut pair = Pair::other(frames::other_memory(&mut random));
@@ -333,14 +364,17 @@ fn compare_other_memory() -> Result<(), String> {
                 Call::Input { slot, port, byte } => pair.input(slot, port, byte).map(|_| ()),
                 // Every slot is asked below; the reference would count and not tell the number kept.
                 Call::OutputsOn(_) => Ok(()),
-                Call::Serve { slice, room } => pair.serve(&slice, room, &mut random).map(|_| ()),
+                Call::Serve { slice, room } => {
+                    pair.serve(&slice, room, &mut random).map(|sent| counts.served(&slice, sent, &pair.area))
+                }
             };
             made.and_then(|()| pair.moved_numbers(&before, &mut wraps))
                 .map_err(|text| format!("other memory, start {start}: {text}"))?;
         }
     }
+    counts.every_outcome().map_err(|text| format!("other memory: {text}"))?;
     match wraps {
-        Wraps { above: true, below: true } => Ok(()),
+        Wraps { above: true, below: true } => Ok(counts),
         _ => Err("from other memory no number goes above 65535, or none below 0".to_string()),
     }
 }
@@ -418,17 +452,24 @@ fn run(rounds: usize) -> Result<(), String> {
     let set = compare_frames(&frames)?;
     let stream = compare_calls()?;
     compare_every_number()?;
-    compare_other_memory()?;
+    let other = compare_other_memory()?;
     println!("{:<35}{:>10}{:>10}", "number", "frames", "calls");
     for (number, (set, stream)) in set.numbers.iter().zip(&stream.numbers).enumerate() {
         println!("{number:<35}{set:>10}{stream:>10}");
     }
     println!("{:<35}{:>10}{:>10}", "position", "frames", "calls");
-    for (kind, (set, stream)) in set.kinds.iter().zip(&stream.kinds).enumerate() {
-        println!("{:<35}{set:>10}{stream:>10}", kinds::name(kind));
+    for (name, (set, stream)) in kinds::names().zip(set.kinds.iter().zip(&stream.kinds)) {
+        println!("{name:<35}{set:>10}{stream:>10}");
     }
     let [answered, refused] = [0, INPUT].map(|number| stream.asked[usize::from(number)]);
     println!("{answered} of the calls ask for the outputs on and get 0, {refused} get 14");
+    println!("{:<35}{:>10}{:>10}{:>14}", "LNA and SNA at an arm", "frames", "calls", "other memory");
+    for (index, outcome) in OUTCOMES.iter().enumerate() {
+        let [set, stream, other] = [&set, &stream, &other].map(|counts| counts.outcomes[index]);
+        println!("{:<35}{set:>10}{stream:>10}{other:>14}", outcome.to_string());
+    }
+    let [set, stream, other] = [&set, &stream, &other].map(|counts| counts.outcomes.iter().sum::<usize>());
+    println!("{:<35}{set:>10}{stream:>10}{other:>14}", "all");
     println!("gateway and reference agree on {FRAMES} frames and {CALLS} calls\n");
     time(&frames, rounds);
     Ok(())

@@ -1,5 +1,5 @@
-//! A bytewise server of the base commands as requests E2, E6, E7 and E9 leave them, with the memory that E3 lends, written
-//! from documents 01 and 02 alone.
+//! A bytewise server of the base commands as requests E2, E6, E7 and E9 leave them, and of LNA and SNA of E3, written from
+//! documents 01 and 02 alone, but for the layout of the memory of START programs, which is that of docs/MEMORY.md.
 
 use std::mem;
 
@@ -17,6 +17,7 @@ pub const NUMBER: u8 = 11;
 pub const VALUE: u8 = 12;
 pub const SETUP: u8 = 13;
 pub const INPUT: u8 = 14;
+pub const EMPTY: u8 = 16;
 
 pub const STX: u8 = 0x02;
 pub const ETX: u8 = 0x03;
@@ -24,8 +25,17 @@ pub const ETX: u8 = 0x03;
 /// The least length of a reply area.
 pub const REPLY_ROOM: usize = 64;
 
+/// The length of a text of a START program.
+pub const TEXT: usize = 8;
+
+/// The length of a step: five texts, the command and then the data.
+const STEP: usize = 5 * TEXT;
+
+/// The length of an arm's START program.
+const PROGRAM: usize = 256 * STEP;
+
 /// The length of the memory that is lent for the START programs.
-pub const PROGRAMS: usize = 40_960;
+pub const PROGRAMS: usize = 4 * PROGRAM;
 
 /// The tables of four arms and their stations, 0 for an unfitted slot. The first index is the slot.
 #[derive(Clone, PartialEq, Eq)]
@@ -300,6 +310,8 @@ fn perform(tables: &mut Tables, slot: usize, body: &[u8], reply: &mut Reply) -> 
         b"SNBD" => {
             store_port(&mut tables.memory[slot], fields, reply)?;
         }
+        b"LNA " => load_step(&tables.programs[slot * PROGRAM..][..PROGRAM], fields, reply)?,
+        b"SNA " => store_step(&mut tables.programs[slot * PROGRAM..][..PROGRAM], fields, reply)?,
         _ => return Err(COMMAND),
     }
     Ok(())
@@ -364,6 +376,46 @@ fn store_port(ports: &mut [u8], mut fields: Fields, reply: &mut Reply) -> Result
     *port = u8::try_from(data).map_err(|_| VALUE)?;
     reply.done();
     Ok(Written { old, new: *port })
+}
+
+/// The reply has the texts of the step up to the first empty one. A step whose command is empty was never written.
+#[inline(never)]
+fn load_step(program: &[u8], mut fields: Fields, reply: &mut Reply) -> Result<(), u8> {
+    let number = fields.number()?;
+    fields.end()?;
+    let step = program.chunks_exact(STEP).nth(number).ok_or(NUMBER)?;
+    if characters(step) == 0 {
+        return Err(EMPTY);
+    }
+    reply.whole(number as u32);
+    for text in step.chunks_exact(TEXT) {
+        let length = characters(text);
+        if length == 0 {
+            break;
+        }
+        reply.byte(b' ');
+        for &byte in &text[..length] {
+            reply.byte(byte);
+        }
+    }
+    Ok(())
+}
+
+/// Every byte of the step is written, with zeros where no character stands.
+#[inline(never)]
+fn store_step(program: &mut [u8], mut fields: Fields, reply: &mut Reply) -> Result<(), u8> {
+    let number = fields.number()?;
+    let new = fields.step()?;
+    fields.end()?;
+    let step = program.chunks_exact_mut(STEP).nth(number).ok_or(NUMBER)?;
+    step.copy_from_slice(&new);
+    reply.done();
+    Ok(())
+}
+
+/// How many characters the bytes begin with: bytes from 21h to 7Eh.
+fn characters(bytes: &[u8]) -> usize {
+    bytes.iter().take_while(|byte| (0x21..=0x7E).contains(*byte)).count()
 }
 
 /// What is still to be read: the fields, each behind an SP, then ETX.
@@ -442,6 +494,31 @@ impl Fields<'_> {
         }
         Ok(if negative { -value } else { value })
     }
+
+    /// 1 to 5 texts: the command, then data up to ETX.
+    fn step(&mut self) -> Result<[u8; STEP], u8> {
+        let mut step = [0; STEP];
+        for (place, text) in step.chunks_exact_mut(TEXT).enumerate() {
+            if place > 0 && self.end().is_ok() {
+                break;
+            }
+            self.space()?;
+            self.text(text)?;
+        }
+        Ok(step)
+    }
+
+    /// 1 to 8 characters. The bytes behind them in the text stay as they are.
+    fn text(&mut self, text: &mut [u8]) -> Result<(), u8> {
+        let length = characters(self.rest);
+        if !(1..=TEXT).contains(&length) {
+            return Err(SHAPE);
+        }
+        let (field, rest) = self.rest.split_at(length);
+        text[..length].copy_from_slice(field);
+        self.rest = rest;
+        Ok(())
+    }
 }
 
 /// Where a slice that gets this refusal is wrong. Only a refused slice is walked again.
@@ -503,12 +580,14 @@ fn wrong_field(slice: &[u8]) -> usize {
     surplus
 }
 
-/// The forms of the fields that a command expects behind its name.
+/// The forms of the fields that a command expects behind its name. The data of SNA may lack; a request with a step and a
+/// command whose shape is wrong has a malformed or a surplus field.
 fn forms(name: &[u8]) -> &'static [fn(&[u8]) -> bool] {
     match name {
         b"SNT" => &[is_whole, is_hundredths],
         b"SNL" => &[is_whole, is_hundredths, is_hundredths, is_hundredths, is_hundredths],
         b"SND" | b"SNOB" | b"SNOD" | b"SNBB" | b"SNBD" => &[is_whole, is_whole],
+        b"SNA" => &[is_whole, is_text, is_text, is_text, is_text, is_text],
         _ => &[is_whole],
     }
 }
@@ -528,6 +607,11 @@ fn is_hundredths(field: &[u8]) -> bool {
             is_whole(&size[..point]) && is_whole(decimals) && decimals.len() <= 2
         }
     }
+}
+
+/// 1 to 8 characters. Stray bytes are refused before, so each byte of a field is one.
+fn is_text(field: &[u8]) -> bool {
+    (1..=TEXT).contains(&field.len())
 }
 
 /// A reply that is being written, and the exclusive or of its bytes after STX.
@@ -694,7 +778,7 @@ mod tests {
 
     #[test]
     fn positions() {
-        let cases: [(&[u8], u8, usize); 42] = [
+        let cases: [(&[u8], u8, usize); 61] = [
             (b"1 LNT 5", 0, 0),
             (b"9 LNT x", ABSENT, 0),
             // The first stray byte, wherever it stands.
@@ -741,6 +825,26 @@ mod tests {
             (b"1 SNBB 255 1", NUMBER, 8),
             (b"1 SNT 0005 -0.01", VALUE, 12),
             (b"42 SNBB 256 2", VALUE, 13),
+            // Steps: 1 to 5 texts of 1 to 8 characters.
+            (b"1 SNA 5 MOV", 0, 0),
+            (b"1 SNA 5 12345678 1 2 3 4", 0, 0),
+            (b"1 SNA", SHAPE, 6),
+            (b"1 SNA 5", SHAPE, 8),
+            (b"1 SNA 5 ", SHAPE, 9),
+            (b"1 SNA x", SHAPE, 7),
+            (b"1 SNA 00005 MOV", SHAPE, 7),
+            (b"1 SNA 5 MOV ", SHAPE, 13),
+            (b"1 SNA 5 MOV  1", SHAPE, 13),
+            (b"1 SNA 5 123456789", SHAPE, 9),
+            (b"1 SNA 256 MOV 123456789", SHAPE, 15),
+            (b"42 SNA 5 MOV 1 2 3 4 5", SHAPE, 22),
+            (b"42 SNA 5 MOV 1 2 3 4 ", SHAPE, 22),
+            (b"42 SNA 5 MOV 1 2 3 123456789 5", SHAPE, 20),
+            (b"42 SNA 256 MOV", NUMBER, 8),
+            (b"1 LNA", SHAPE, 6),
+            (b"1 LNA 5 6", SHAPE, 9),
+            (b"1 LNA 256", NUMBER, 7),
+            (b"1 LNA 255", EMPTY, 0),
         ];
         for (text, number, position) in cases {
             assert_eq!(wrong_at(text), (number, position), "{}", String::from_utf8_lossy(text));
@@ -782,6 +886,62 @@ mod tests {
         for want in [[1, 2, 3, 100], [5, 0, 5, 0], [257, 2, 3, 4]] {
             assert_eq!(setup(&mut tables, &want), SETUP);
             assert!(tables == Tables::new());
+        }
+    }
+
+    /// The refusal number and the text of the reply.
+    fn replied(tables: &mut Tables, text: &[u8]) -> (u8, Vec<u8>) {
+        let mut area = [0; REPLY_ROOM];
+        let sent = serve(tables, &frame(text), &mut area);
+        (sent.number, area[1..sent.length - 2].to_vec())
+    }
+
+    #[test]
+    fn steps() {
+        let mut tables = Tables::new();
+        assert_eq!(setup(&mut tables, &[1, 0, 42, 0]), 0);
+        let cases: [(&[u8], u8, &[u8]); 12] = [
+            (b"1 LNA 255", EMPTY, b"1 E16"),
+            (b"1 LNA 256", NUMBER, b"1 E11"),
+            (b"1 SNA 256 MOV", NUMBER, b"1 11"),
+            (b"42 SNA 0255 !!!!!!!! ~~~~~~~~ 1 22 12345678", 0, b"42 00"),
+            (b"42 LNA 0255", 0, b"42 255 !!!!!!!! ~~~~~~~~ 1 22 12345678"),
+            (b"42 SNA 255 x y 123456789", SHAPE, b"42 10"),
+            (b"42 LNA 255", 0, b"42 255 !!!!!!!! ~~~~~~~~ 1 22 12345678"),
+            (b"42 SNA 255 x y", 0, b"42 00"),
+            (b"42 LNA 255", 0, b"42 255 x y"),
+            (b"42 LNA 254", EMPTY, b"42 E16"),
+            (b"1 LNA 255", EMPTY, b"1 E16"),
+            (b"1 SNA 0 E16", 0, b"1 00"),
+        ];
+        for (text, number, reply) in cases {
+            let wanted = (number, reply.to_vec());
+            assert_eq!(replied(&mut tables, text), wanted, "{}", String::from_utf8_lossy(text));
+        }
+        let mut programs = vec![0; PROGRAMS];
+        programs[..3].copy_from_slice(b"E16");
+        programs[30_680] = b'x';
+        programs[30_688] = b'y';
+        assert!(tables.programs == programs);
+    }
+
+    #[test]
+    fn steps_of_other_memory() {
+        let mut tables = Tables::new();
+        assert_eq!(setup(&mut tables, &[1, 0, 42, 0]), 0);
+        let cases: [(&[u8; STEP], u8, &[u8]); 6] = [
+            (b"MOV\0\0\0\0\0P1\0\0\0\0\0\0\0\0\0\0\0\0\0\0P2\0\0\0\0\0\0P3\0\0\0\0\0\0", 0, b"1 7 MOV P1"),
+            (b"\0MOV\0\0\0\0P1\0\0\0\0\0\0P2\0\0\0\0\0\0P3\0\0\0\0\0\0P4\0\0\0\0\0\0", EMPTY, b"1 E16"),
+            (b" MOV    P1      P2      P3      P4      ", EMPTY, b"1 E16"),
+            (b"1234567812345678123456781234567812345678", 0, b"1 7 12345678 12345678 12345678 12345678 12345678"),
+            (b"!~ 45678!~\x7F45678!~\x8045678!~\xFF45678!~\x0345678", 0, b"1 7 !~ !~ !~ !~ !~"),
+            (b"1 345678\x7F2345678123456781234567812345678", 0, b"1 7 1"),
+        ];
+        for (step, number, reply) in cases {
+            tables.programs[7 * STEP..][..STEP].copy_from_slice(step);
+            let before = tables.clone();
+            assert_eq!(replied(&mut tables, b"1 LNA 7"), (number, reply.to_vec()));
+            assert!(tables == before);
         }
     }
 
