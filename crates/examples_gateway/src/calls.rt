@@ -5,7 +5,12 @@ use crate::memory::put_memory;
 use crate::memory::write_bytes;
 use crate::ranges::try_row;
 use crate::script::Step;
+use crate::script::byte;
+use crate::script::number;
 use crate::script::put_label;
+use crate::script::rest;
+use crate::script::size;
+use crate::script::stations;
 use crate::script::step_of;
 use crate::script::told;
 use crate::snapshot::put_tables;
@@ -13,7 +18,6 @@ use crate::snapshot::put_zero;
 use crate::snapshot::snapshot;
 use commands::request::Port;
 use gateway::serve::serve;
-use print::front;
 use print::put;
 use print::put_two;
 use print::put_whole;
@@ -21,6 +25,7 @@ use print::put_written;
 use slots::count::outputs_on;
 use slots::input::input;
 use slots::setup::setup;
+ghost use Prim.Native.Nat.{_≤_};
 
 fn put_station(s: u8) {
     put(b" ");
@@ -33,27 +38,6 @@ fn put_stations(s: &[u8; 4]) {
     put_station(s[1]);
     put_station(s[2]);
     put_station(s[3]);
-}
-
-// Serves a slice with an area for its reply.
-fn answer(
-    t: &mut [[u16; 16]; 4],
-    d: &mut [[u16; 64]; 4],
-    x: &mut [[i32; 100]; 4],
-    y: &mut [[i32; 100]; 4],
-    z: &mut [[i32; 100]; 4],
-    w: &mut [[i32; 100]; 4],
-    i: &mut [[u8; 32]; 4],
-    o: &mut [[u8; 32]; 4],
-    m: &mut [[u8; 16]; 4],
-    on: &mut [u16; 4],
-    p: &mut [u8],
-    s: &[u8; 4],
-    slice: &[u8],
-    area: &mut [u8],
-) {
-    let sent = serve(t, d, x, y, z, w, i, o, m, on, p, s, slice, area);
-    put_written(sent.number, sent.length, b", no reply", area);
 }
 
 // Sets up a box in other tables, every entry of which is 7 before, with p for START programs.
@@ -97,23 +81,35 @@ fn set_up(want: [u16; 4]) {
     set_up_other(&mut p[..], want);
 }
 
-// Sets up a box in other memory, of which the first bytes of p are for START programs.
-fn set_up_within(p: &mut [u8], size: usize, want: [u16; 4]) {
-    if p.len() < size {
-        return;
+// Sets up a box in other memory, with a number of bytes for START programs that are filled.
+fn set_up_lent(size: u16, want: [u16; 4]) {
+    let mut p = [FILL; 65535];
+    let end = size as usize;
+    let lent = &mut p[..end];
+    set_up_other(lent, want);
+    put_lent(lent);
+}
+
+// The slice that a line has served.
+fn slice_of(step: Step, line: &[u8]) -> &[u8] {
+    match step {
+        Step::ServeLent => told(line),
+        _ => rest(line),
     }
-    set_up_other(&mut p[..size], want);
 }
 
-// The same with a number of bytes that are filled.
-fn set_up_lent(size: usize, want: [u16; 4]) {
-    let mut p = [FILL; 40961];
-    set_up_within(&mut p[..], size, want);
-    put_lent(front(&p[..], size));
+// How many bytes a step has for its reply.
+fn width(step: Step) -> usize
+    ensures { λ r. ⌜ r ≤ 64 ⌝ }
+{
+    match step {
+        Step::Narrow => 63,
+        _ => 64,
+    }
 }
 
-// Serves a slice with the first bytes of p for START programs.
-fn answer_within(
+// Serves the slice of a line.
+fn answer(
     t: &mut [[u16; 16]; 4],
     d: &mut [[u16; 64]; 4],
     x: &mut [[i32; 100]; 4],
@@ -125,15 +121,14 @@ fn answer_within(
     m: &mut [[u8; 16]; 4],
     on: &mut [u16; 4],
     p: &mut [u8],
-    size: usize,
     s: &[u8; 4],
-    slice: &[u8],
+    step: Step,
+    line: &[u8],
 ) {
     let mut area = [0xaa; 64];
-    if p.len() < size {
-        return;
-    }
-    answer(
+    let end = width(step);
+    let reply = &mut area[..end];
+    let sent = serve(
         t,
         d,
         x,
@@ -144,14 +139,15 @@ fn answer_within(
         o,
         m,
         on,
-        &mut p[..size],
+        p,
         s,
-        slice,
-        &mut area,
+        slice_of(step, line),
+        reply,
     );
+    put_written(sent.number, sent.length, b", no reply", reply);
 }
 
-// The same with a number of bytes that are filled.
+// The same with a number of bytes for START programs that are filled.
 fn answer_lent(
     t: &mut [[u16; 16]; 4],
     d: &mut [[u16; 64]; 4],
@@ -163,21 +159,42 @@ fn answer_lent(
     o: &mut [[u8; 32]; 4],
     m: &mut [[u8; 16]; 4],
     on: &mut [u16; 4],
-    size: usize,
     s: &[u8; 4],
-    slice: &[u8],
+    step: Step,
+    line: &[u8],
 ) {
-    let mut p = [FILL; 40961];
-    answer_within(t, d, x, y, z, w, i, o, m, on, &mut p[..], size, s, slice);
-    put_lent(front(&p[..], size));
+    let mut p = [FILL; 65535];
+    let end = size(line) as usize;
+    let lent = &mut p[..end];
+    answer(t, d, x, y, z, w, i, o, m, on, lent, s, step, line);
+    put_lent(lent);
 }
 
-// Where a text of a step of a slot's program stands.
-fn place(slot: u16, step: u16, text: u16) -> usize {
-    slot as usize * 10240 + step as usize * 40 + text as usize * 8
+// Where a text of a step of a slot's program stands, as a line of bytes says.
+fn place(line: &[u8]) -> usize {
+    number(line, 2) as usize * 10240 + number(line, 4) as usize * 40 + number(line, 6) as usize * 8
 }
 
-// Makes the call of a step; `rest` is its line from the second byte on.
+fn put_outputs(on: &[u16; 4], s: &[u8; 4], slot: u16) {
+    let told = outputs_on(on, s, slot as usize);
+    put_two(told.number);
+    put(b", ");
+    put_whole(told.count as u64);
+    put(b" on");
+}
+
+// Makes the call of a step that takes none of the tables but the counts of outputs.
+fn make_apart(on: &[u16; 4], p: &mut [u8], s: &[u8; 4], step: Step, line: &[u8]) {
+    match step {
+        Step::Other => set_up(stations(line, 2)),
+        Step::SetupLent => set_up_lent(size(line), stations(line, 3)),
+        Step::Bytes => write_bytes(p, place(line), told(line)),
+        Step::Memory => put_memory(p),
+        _ => put_outputs(on, s, number(line, 3)),
+    }
+}
+
+// Makes the call of a step.
 fn make(
     t: &mut [[u16; 16]; 4],
     d: &mut [[u16; 64]; 4],
@@ -192,59 +209,38 @@ fn make(
     p: &mut [u8],
     s: &mut [u8; 4],
     step: Step,
-    rest: &[u8],
+    line: &[u8],
 ) {
     match step {
-        Step::Setup(a, b, c, e) => {
-            put_two(setup(t, d, x, y, z, w, i, o, m, on, p, s, [a, b, c, e]));
+        Step::Setup => {
+            put_two(setup(t, d, x, y, z, w, i, o, m, on, p, s, stations(line, 1)));
             put_stations(s);
         }
-        Step::Other(a, b, c, e) => set_up([a, b, c, e]),
-        Step::SetupLent(size, a, b, c, e) => set_up_lent(size, [a, b, c, e]),
-        Step::ServeLent(size) => answer_lent(t, d, x, y, z, w, i, o, m, on, size, s, told(rest)),
-        Step::Bytes(slot, n, text) => write_bytes(p, place(slot, n, text), told(rest)),
-        Step::Memory => put_memory(p),
-        Step::Input(slot, port, byte) => put_two(input(
-            t,
-            d,
-            x,
-            y,
-            z,
-            w,
-            i,
-            o,
-            m,
-            on,
-            s,
-            slot as usize,
-            Port(port),
-            byte,
-        )),
-        Step::Outputs(slot) => {
-            let told = outputs_on(on, s, slot as usize);
-            put_two(told.number);
-            put(b", ");
-            put_whole(told.count as u64);
-            put(b" on");
+        Step::Input => {
+            let slot = number(line, 2);
+            let port = number(line, 4);
+            put_two(input(
+                t,
+                d,
+                x,
+                y,
+                z,
+                w,
+                i,
+                o,
+                m,
+                on,
+                s,
+                slot as usize,
+                Port(port),
+                byte(line, 6),
+            ));
         }
-        Step::Narrow => {
-            let mut area = [0xaa; 63];
-            answer(t, d, x, y, z, w, i, o, m, on, p, s, rest, &mut area);
-        }
-        Step::Ranges => try_row(t, d, x, y, z, w, i, o, m, on, p, s, rest),
-        Step::Serve => {
-            let mut area = [0xaa; 64];
-            answer(t, d, x, y, z, w, i, o, m, on, p, s, rest, &mut area);
-        }
+        Step::Narrow | Step::Serve => answer(t, d, x, y, z, w, i, o, m, on, p, s, step, line),
+        Step::ServeLent => answer_lent(t, d, x, y, z, w, i, o, m, on, s, step, line),
+        Step::Ranges => try_row(t, d, x, y, z, w, i, o, m, on, p, s, rest(line)),
+        _ => make_apart(on, p, s, step, line),
     }
-}
-
-// The line from its second byte on.
-fn rest(line: &[u8]) -> &[u8] {
-    if line.len() == 0 {
-        return line;
-    }
-    &line[1..]
 }
 
 // Makes the call of a line, given the tables' entries before it, and returns those after it.
@@ -266,7 +262,7 @@ pub fn call(
 ) -> [i32; 2244] {
     let step = step_of(line);
     put_label(step, line);
-    make(t, d, x, y, z, w, i, o, m, on, p, s, step, rest(line));
+    make(t, d, x, y, z, w, i, o, m, on, p, s, step, line);
     let after = snapshot(t, d, x, y, z, w, i, o, m, on);
     put_tables(step, &before, &after);
     after

@@ -89,52 +89,6 @@ fn first_bytes(area: &[u8; 256], n: usize) -> &[u8] {
     front(&area[..], n)
 }
 
-// Serves a trial, and says what was answered.
-fn try_one(
-    t: &mut [[u16; 16]; 4],
-    d: &mut [[u16; 64]; 4],
-    x: &mut [[i32; 100]; 4],
-    y: &mut [[i32; 100]; 4],
-    z: &mut [[i32; 100]; 4],
-    w: &mut [[i32; 100]; 4],
-    i: &mut [[u8; 32]; 4],
-    o: &mut [[u8; 32]; 4],
-    m: &mut [[u8; 16]; 4],
-    on: &mut [u16; 4],
-    p: &mut [u8],
-    s: &[u8; 4],
-    row: &[u8],
-    trial: Trial,
-) {
-    let mut area = [0u8; 256];
-    let end = write_trial(&mut area, row, trial);
-    put(b"range ");
-    put_slice(first_bytes(&area, end.at));
-    let length = close(&mut area, end);
-    let mut reply = [0u8; 64];
-    let sent = serve(
-        t,
-        d,
-        x,
-        y,
-        z,
-        w,
-        i,
-        o,
-        m,
-        on,
-        p,
-        s,
-        first_bytes(&area, length),
-        &mut reply,
-    );
-    put(b": ");
-    put_two(sent.number);
-    put(b" ");
-    put_slice(front(&reply, sent.length));
-    put(b"\n");
-}
-
 fn first_letter(row: &[u8]) -> u8 {
     let name = part(row, b' ', 1);
     if name.len() == 0 {
@@ -189,7 +143,26 @@ fn trial_of(row: &[u8], n: usize) -> Trial
     }
 }
 
-// Every trial of a row.
+// Writes the frame of trial n of a row, says which it is, and returns its length.
+fn write_request(area: &mut [u8; 256], row: &[u8], n: usize) -> usize
+    requires { ⌜ n ≤ 24 ⌝ }
+{
+    let end = write_trial(area, row, trial_of(row, n));
+    put(b"range ");
+    put_slice(first_bytes(area, end.at));
+    close(area, end)
+}
+
+// Says what was answered to a trial.
+fn put_reply(number: u8, reply: &[u8]) {
+    put(b": ");
+    put_two(number);
+    put(b" ");
+    put_slice(reply);
+    put(b"\n");
+}
+
+// Serves every trial of a row, and says what was answered.
 pub fn try_row(
     t: &mut [[u16; 16]; 4],
     d: &mut [[u16; 64]; 4],
@@ -206,6 +179,11 @@ pub fn try_row(
     row: &[u8],
 ) {
     for n in 0..4 + 5 * count_of(row) {
-        try_one(t, d, x, y, z, w, i, o, m, on, p, s, row, trial_of(row, n));
+        let mut area = [0u8; 256];
+        let length = write_request(&mut area, row, n);
+        let request = first_bytes(&area, length);
+        let mut reply = [0u8; 64];
+        let sent = serve(t, d, x, y, z, w, i, o, m, on, p, s, request, &mut reply);
+        put_reply(sent.number, front(&reply, sent.length));
     }
 }

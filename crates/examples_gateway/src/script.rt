@@ -9,19 +9,19 @@ use text::whole::read_whole;
 // What a line asks for.
 pub enum Step {
     // "setup" and four stations: a new box, in the memory of the last.
-    Setup(u16, u16, u16, u16),
+    Setup,
     // "other setup" and four stations: a new box in other memory.
-    Other(u16, u16, u16, u16),
+    Other,
     // "input slot A port B byte C": an input call.
-    Input(u16, u16, u8),
+    Input,
     // "outputs on slot A": how many outputs are on.
-    Outputs(u16),
+    Outputs,
     // "lent A setup" and four stations: a new box in other memory, A bytes of it for START programs.
-    SetupLent(usize, u16, u16, u16, u16),
+    SetupLent,
     // "lent A serving =" and a slice: it is served with other A bytes for START programs.
-    ServeLent(usize),
+    ServeLent,
     // "bytes slot A step B text C =" and bytes: they are written into the START programs.
-    Bytes(u16, u16, u16),
+    Bytes,
     // "memory": what stands in the START programs.
     Memory,
     // "N" and a slice: it is served with a reply area of 63 bytes.
@@ -33,7 +33,7 @@ pub enum Step {
 }
 
 // Word k of a line as a number.
-fn number(line: &[u8], k: usize) -> u16 {
+pub fn number(line: &[u8], k: usize) -> u16 {
     let read = read_whole(part(line, b' ', k), 0);
     let w = read.whole;
     match w {
@@ -42,12 +42,22 @@ fn number(line: &[u8], k: usize) -> u16 {
     }
 }
 
-fn byte(line: &[u8], k: usize) -> u8 {
+pub fn byte(line: &[u8], k: usize) -> u8 {
     (number(line, k) % 256) as u8
 }
 
+// The four stations that a line says from word k on.
+pub fn stations(line: &[u8], k: u8) -> [u16; 4] {
+    let first = k as usize;
+    let a = number(line, first);
+    let b = number(line, first + 1);
+    let c = number(line, first + 2);
+    let d = number(line, first + 3);
+    [a, b, c, d]
+}
+
 // A size that word 1 of a line says: that of the START programs, one byte less, one more, or none.
-fn size(line: &[u8]) -> usize {
+pub fn size(line: &[u8]) -> u16 {
     let word = part(line, b' ', 1);
     if is_same(word, b"40959") {
         return 40959;
@@ -66,18 +76,12 @@ pub fn told(line: &[u8]) -> &[u8] {
     part(line, b'=', 1)
 }
 
-// A line that begins with "lent".
-fn lent(line: &[u8]) -> Step {
-    if is_same(part(line, b' ', 2), b"setup") {
-        return Step::SetupLent(
-            size(line),
-            number(line, 3),
-            number(line, 4),
-            number(line, 5),
-            number(line, 6),
-        );
+// The line from its second byte on.
+pub fn rest(line: &[u8]) -> &[u8] {
+    if line.len() == 0 {
+        return line;
     }
-    Step::ServeLent(size(line))
+    &line[1..]
 }
 
 fn is_kind(line: &[u8], kind: u8) -> bool {
@@ -87,39 +91,8 @@ fn is_kind(line: &[u8], kind: u8) -> bool {
     line[0] == kind
 }
 
-pub fn step_of(line: &[u8]) -> Step {
-    let name = part(line, b' ', 0);
-    if is_same(name, b"setup") {
-        return Step::Setup(
-            number(line, 1),
-            number(line, 2),
-            number(line, 3),
-            number(line, 4),
-        );
-    }
-    if is_same(name, b"other") {
-        return Step::Other(
-            number(line, 2),
-            number(line, 3),
-            number(line, 4),
-            number(line, 5),
-        );
-    }
-    if is_same(name, b"input") {
-        return Step::Input(number(line, 2), number(line, 4), byte(line, 6));
-    }
-    if is_same(name, b"outputs") {
-        return Step::Outputs(number(line, 3));
-    }
-    if is_same(name, b"lent") {
-        return lent(line);
-    }
-    if is_same(name, b"bytes") {
-        return Step::Bytes(number(line, 2), number(line, 4), number(line, 6));
-    }
-    if is_same(name, b"memory") {
-        return Step::Memory;
-    }
+// A line that begins with its kind.
+fn kind_of(line: &[u8]) -> Step {
     if is_kind(line, b'N') {
         return Step::Narrow;
     }
@@ -129,12 +102,46 @@ pub fn step_of(line: &[u8]) -> Step {
     Step::Serve
 }
 
+// A line that begins with "lent".
+fn lent(line: &[u8]) -> Step {
+    if is_same(part(line, b' ', 2), b"setup") {
+        return Step::SetupLent;
+    }
+    Step::ServeLent
+}
+
+pub fn step_of(line: &[u8]) -> Step {
+    let name = part(line, b' ', 0);
+    if is_same(name, b"setup") {
+        return Step::Setup;
+    }
+    if is_same(name, b"other") {
+        return Step::Other;
+    }
+    if is_same(name, b"input") {
+        return Step::Input;
+    }
+    if is_same(name, b"outputs") {
+        return Step::Outputs;
+    }
+    if is_same(name, b"lent") {
+        return lent(line);
+    }
+    if is_same(name, b"bytes") {
+        return Step::Bytes;
+    }
+    if is_same(name, b"memory") {
+        return Step::Memory;
+    }
+    kind_of(line)
+}
+
 // What stands before a step's answer.
 pub fn put_label(step: Step, line: &[u8]) {
     match step {
         Step::Ranges | Step::Memory => {}
-        Step::Bytes(_, _, _) => put_slice(line),
-        Step::ServeLent(_) => {
+        Step::Bytes => put_slice(line),
+        Step::ServeLent => {
             put(b"lent ");
             put(part(line, b' ', 1));
             put(b" serving ");
@@ -151,7 +158,5 @@ pub fn put_label(step: Step, line: &[u8]) {
 
 fn put_serving(label: &[u8], line: &[u8]) {
     put(label);
-    if 0 < line.len() {
-        put_slice(&line[1..]);
-    }
+    put_slice(rest(line));
 }

@@ -145,7 +145,7 @@ fn put_same(before: &[i32; 2244], after: &[i32; 2244]) {
 pub fn put_tables(step: Step, before: &[i32; 2244], after: &[i32; 2244]) {
     match step {
         Step::Ranges => return,
-        Step::Setup(_, _, _, _) => put_zero(b", tables", after),
+        Step::Setup => put_zero(b", tables", after),
         _ => put_same(before, after),
     }
     put(b"\n");

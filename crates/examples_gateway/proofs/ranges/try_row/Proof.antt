@@ -24,20 +24,41 @@ add-n-end c = search needs
 loop-holds : tie.Need-loop-holds Inv-loop μ-loop
 loop-holds c = search needs
 
-trial-of-requires : tie.Need-trial-of-requires Inv-loop μ-loop
-trial-of-requires c κs = search needs
+write-request-requires : tie.Need-write-request-requires Inv-loop μ-loop
+write-request-requires c κs = search needs
 
-try-one-requires : tie.Need-try-one-requires Inv-loop μ-loop
-try-one-requires c κs = search needs
+first-bytes-requires : tie.Need-first-bytes-requires Inv-loop μ-loop
+first-bytes-requires c κs = search needs
+
+slice-aggregate-serve : tie.Need-slice-aggregate-serve Inv-loop μ-loop
+slice-aggregate-serve c = search needs
+
+serve-requires : tie.Need-serve-requires Inv-loop μ-loop
+serve-requires c κs = search needs
+
+slice-aggregate-front : tie.Need-slice-aggregate-front Inv-loop μ-loop
+slice-aggregate-front c = search needs
+
+front-requires : tie.Need-front-requires Inv-loop μ-loop
+front-requires c κs = search needs
+
+put-reply-requires : tie.Need-put-reply-requires Inv-loop μ-loop
+put-reply-requires c κs = search needs
 
 add-n : tie.Need-add-n Inv-loop μ-loop
-add-n c = search needs
+add-n c =
+    let l = c .before .before .before .before .before .before .before .before .before .before .before .before .before .before .before .before .before .before .before .before .before .before .before in
+    search (needs, l .loop-test .taken, l .before .loop .inv)
 
 loop-less : tie.Need-loop-less Inv-loop μ-loop
-loop-less c = search needs
+loop-less c =
+    let l = c .before .before .before .before .before .before .before .before .before .before .before .before .before .before .before .before .before .before .before .before .before .before .before in
+    search (needs, l .loop-test .taken)
 
 loop-again : tie.Need-loop-again Inv-loop μ-loop
-loop-again c = search needs
+loop-again c =
+    let l = c .before .before .before .before .before .before .before .before .before .before .before .before .before .before .before .before .before .before .before .before .before .before .before in
+    search (needs, l .loop-test .taken, l .before .loop .inv)
 
 same-length : tie.Need-same-length Inv-loop μ-loop
 same-length c = search needs
@@ -55,8 +76,13 @@ try-row-spec =
     mul-n-end
     add-n-end
     loop-holds
-    trial-of-requires
-    try-one-requires
+    write-request-requires
+    first-bytes-requires
+    slice-aggregate-serve
+    serve-requires
+    slice-aggregate-front
+    front-requires
+    put-reply-requires
     add-n
     loop-less
     loop-again
