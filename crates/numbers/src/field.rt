@@ -87,11 +87,15 @@ pub fn read_field(kind: Kind, s: &[u8], from: usize) -> ValueField
     }
 }
 
-// The digits of a whole value.
+// The digits of a whole value: its last four.
 fn digits_of(v: i32) -> u16
     ensures { λ r. ⌜ r ≡ digitsOf v ⌝ }
 {
-    (unsigned_abs(v) % 10000) as u16
+    let n = unsigned_abs(v);
+    if n < 10000 {
+        return n as u16;
+    }
+    (n % 10000) as u16
 }
 
 // Writes a value of a kind.
