@@ -1,0 +1,4 @@
+pub mod Rule
+pub mod Receive
+pub mod Line
+pub mod Shape
