@@ -8,7 +8,8 @@
 //
 // Refusal numbers, in the order checked; 0 is no refusal:
 //   1 ROOM     the reply area is under 64 bytes,         8 ABSENT   no fitted arm has the station
-//              or programs has another length            9 COMMAND  the first field is no command
+//              programs has another length, or           9 COMMAND  the first field is no command
+//              the area for a slice is under 255 bytes
 //   2 LENGTH   the slice is under 6 or over 255 bytes   10 SHAPE    a wrong count of fields, or a field not in its form
 //   3 START    the first byte is not STX                11 NUMBER   the number is outside its range
 //   4 END      the last byte but one is not ETX         12 VALUE    data are outside their range
@@ -40,6 +41,14 @@ struct llamput_count {
     uint16_t count;
 };
 
+// What receiving returns: the refusal number, or 0; how many bytes of arrived were taken; and the length of the slice that
+// was finished, 0 for none.
+struct llamput_received {
+    uint8_t number;
+    size_t taken;
+    size_t length;
+};
+
 // Sets up a new box, whatever the memory held: every table and programs zero, each slot with its station from want, 0 for
 // none. Returns 0, or 1 or 13 where it refuses: then every table is zero, no slot is fitted, and programs is untouched.
 uint8_t llamput_setup(uint16_t timers[4][16], uint16_t registers[4][64], int32_t x[4][100], int32_t y[4][100],
@@ -66,6 +75,15 @@ uint8_t llamput_input(uint16_t timers[4][16], uint16_t registers[4][64], int32_t
 // Tells how many of the 256 outputs of the slot's arm are on: the ones in its output ports, as kept in on.
 // Changes nothing. The number is 0, or 14 where it refuses a slot above 3 or unfitted.
 struct llamput_count llamput_outputs_on(const uint16_t on[4], const uint8_t stations[4], size_t slot);
+
+// Finds slices in a line of loose bytes: takes bytes of arrived until a slice is finished or none is left. A finished slice
+// stands at the front of area, to be served; the rest of area, or without a slice all of it, stays as it was. held and count
+// are the receiver's state, which the caller keeps from call to call: the first *count bytes of held are those of a frame
+// that is not finished, and a count of 0, with which a line begins, or of 255 means none. An STX that begins a frame is
+// stored at held[0], any other byte that is not dropped behind those held, and no other byte of held changes. Refuses with 1
+// where area_length is under 255: then nothing is taken, and nothing changes.
+struct llamput_received llamput_receive(uint8_t held[255], uint8_t *count, const uint8_t *arrived, size_t arrived_length,
+                                        uint8_t *area, size_t area_length);
 
 #ifdef __cplusplus
 }

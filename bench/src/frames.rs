@@ -1,5 +1,6 @@
 //! Frames, calls and memory from a generator with a fixed seed.
 
+use crate::receiver::{Receiver, SLICE};
 use crate::reference::{lrc, Tables, PROGRAMS, TEXT};
 use crate::reference::{ABSENT, COMMAND, END, ETX, LENGTH, LRC, NUMBER, SHAPE, START, STATION, STRAY, STX, VALUE};
 
@@ -71,6 +72,11 @@ impl Frames {
 
     pub fn bytes(&self) -> usize {
         self.bytes.len()
+    }
+
+    /// The slices one after the other.
+    pub fn line(&self) -> &[u8] {
+        &self.bytes
     }
 }
 
@@ -767,6 +773,65 @@ fn change(random: &mut Random, slice: &mut Vec<u8>) {
             }
         }
     }
+}
+
+/// The least length of a line for a receiver.
+const LINE: usize = 2000;
+
+/// A line: slices as for serving, runs about as long as a slice can be, noise, and bytes of which many are STX or ETX.
+pub fn line(random: &mut Random) -> Vec<u8> {
+    let mut line = Vec::new();
+    while line.len() < LINE {
+        match random.below(8) {
+            0..=2 => line.extend(served(random, &STATIONS, &COMMANDS)),
+            3..=5 => {
+                line.push(STX);
+                plain(random, SLICE - 8, 12, &mut line);
+                line.push(random.pick(&[STX, ETX, b'0']));
+                line.push(random.pick(&[STX, ETX, b'0']));
+            }
+            6 => plain(random, 0, 40, &mut line),
+            _ => {
+                for _ in 0..random.below(40) {
+                    let any = random.byte();
+                    line.push(random.pick(&[STX, ETX, any, any]));
+                }
+            }
+        }
+    }
+    line
+}
+
+/// Adds bytes that are neither STX nor ETX: the least number and below so many more.
+fn plain(random: &mut Random, least: usize, more: usize, line: &mut Vec<u8>) {
+    for _ in 0..least + random.below(more) {
+        line.push(match random.byte() {
+            STX | ETX => b'0',
+            byte => byte,
+        });
+    }
+}
+
+/// How many bytes of a line arrive, and the length of the area.
+pub fn arrival(random: &mut Random) -> (usize, usize) {
+    let most = random.pick(&[3, 20, 300, 600]);
+    let room = match random.one_in(20) {
+        true => random.below(GREATEST_ROOM + 1),
+        false => random.pick(&[SLICE, SLICE, SLICE + 1, GREATEST_ROOM]),
+    };
+    (random.below(most), room)
+}
+
+/// A receiver with any memory and any count, half of them with ETX as the last byte held.
+pub fn other_receiver(random: &mut Random) -> Receiver {
+    let mut receiver = Receiver::new();
+    random.fill(&mut receiver.held);
+    let any = random.byte();
+    receiver.count = random.pick(&[any, any, any, 0, 1, 253, 254, 255]);
+    if (1..255).contains(&receiver.count) && random.one_in(2) {
+        receiver.held[usize::from(receiver.count) - 1] = ETX;
+    }
+    receiver
 }
 
 #[cfg(test)]

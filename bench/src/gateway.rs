@@ -1,5 +1,6 @@
 //! The entries of libllamput.a, as include/llamput.h declares them.
 
+use crate::receiver::{Received, Receiver};
 use crate::reference::{Count, Sent, Tables};
 
 #[repr(C)]
@@ -13,6 +14,13 @@ struct LlamputSent {
 struct LlamputCount {
     number: u8,
     count: u16,
+}
+
+#[repr(C)]
+struct LlamputReceived {
+    number: u8,
+    taken: usize,
+    length: usize,
 }
 
 extern "C" {
@@ -71,6 +79,15 @@ extern "C" {
     ) -> u8;
 
     fn llamput_outputs_on(on: *const u16, stations: *const u8, slot: usize) -> LlamputCount;
+
+    fn llamput_receive(
+        held: *mut u8,
+        count: *mut u8,
+        arrived: *const u8,
+        arrived_length: usize,
+        area: *mut u8,
+        area_length: usize,
+    ) -> LlamputReceived;
 }
 
 // In each call the areas are fields of one exclusively borrowed struct, or what such a field owns, or borrowed apart from
@@ -149,4 +166,19 @@ pub fn outputs_on(tables: &mut Tables, slot: usize) -> Count {
     let LlamputCount { number, count } =
         unsafe { llamput_outputs_on(tables.on.as_mut_ptr(), tables.stations.as_mut_ptr(), slot) };
     Count { number, count }
+}
+
+#[inline]
+pub fn receive(receiver: &mut Receiver, arrived: &[u8], area: &mut [u8]) -> Received {
+    let LlamputReceived { number, taken, length } = unsafe {
+        llamput_receive(
+            receiver.held.as_mut_ptr(),
+            &mut receiver.count,
+            arrived.as_ptr(),
+            arrived.len(),
+            area.as_mut_ptr(),
+            area.len(),
+        )
+    };
+    Received { number, taken, length }
 }

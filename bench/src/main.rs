@@ -1,11 +1,14 @@
 //! Compares the library llamput with a bytewise server: every answer on 100,000 frames and on a million further calls,
-//! the numbers of outputs on and the START programs from other memory too, then the time of serving those frames.
+//! the numbers of outputs on and the START programs from other memory too, and every call of a receiver on 16,000
+//! lines; then the time of serving those frames, and of receiving them one after the other.
 //!
 //! The optional argument is the number of timed rounds.
 
 mod frames;
 mod gateway;
 mod kinds;
+mod line;
+mod receiver;
 mod reference;
 
 use std::env;
@@ -453,6 +456,8 @@ fn run(rounds: usize) -> Result<(), String> {
     let stream = compare_calls()?;
     compare_every_number()?;
     let other = compare_other_memory()?;
+    let receiving = line::compare_lines()?;
+    let slices = line::compare_frames(&frames)?;
     println!("{:<35}{:>10}{:>10}", "number", "frames", "calls");
     for (number, (set, stream)) in set.numbers.iter().zip(&stream.numbers).enumerate() {
         println!("{number:<35}{set:>10}{stream:>10}");
@@ -470,8 +475,10 @@ fn run(rounds: usize) -> Result<(), String> {
     }
     let [set, stream, other] = [&set, &stream, &other].map(|counts| counts.outcomes.iter().sum::<usize>());
     println!("{:<35}{set:>10}{stream:>10}{other:>14}", "all");
+    receiving.print();
     println!("gateway and reference agree on {FRAMES} frames and {CALLS} calls\n");
     time(&frames, rounds);
+    line::time(&frames, slices, rounds);
     Ok(())
 }
 

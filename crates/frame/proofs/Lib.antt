@@ -6,3 +6,4 @@ pub mod Reading
 pub mod Placed
 pub mod Spaced
 pub mod Short
+pub mod Sound

@@ -6,7 +6,7 @@ use mathlib.Core.List.{List, [], _∷_, map}
 use mathlib.Core.Logic.{_⊎_, inl, inr}
 use mathlib.Core.Option.{Option, some, Option·getD}
 use native.Mathlib.Omega.{arith}
-use borrow.Author.Tests.{ltb-true, ltb-false, eqb-true, eqb-false}
+use borrow.Author.Tests.{ltb-true, ltb-false, eqb-true, eqb-false, not-false}
 use lib.Arith.{lt-of-le-ne}
 use lib.Dec.{ltb, eqb}
 use lib.ListN.{length, getD, take, drop, length-drop}
@@ -198,7 +198,7 @@ module _ (test : ℕ → Bool) where
 
 -- ---- what stands between STX and ETX, byte by byte
 
-inner-length : (s : List ℕ) → length (inner s) ≡ length s - 3
+pub inner-length : (s : List ℕ) → length (inner s) ≡ length s - 3
 inner-length s = length-drop 1 (take (length s - 2) s) ∙ rw (length-take-le (length s - 2) s (omega arith)) (omega arith)
 
 inner-at : (s : List ℕ) (i : ℕ) → i < length s - 3 → getD (inner s) i 0 ≡ getD s (suc i) 0
@@ -208,18 +208,20 @@ inner-at s i h =
 
 -- ---- the checks that a slice passed, by the number it is refused with
 
-neither : (a b : Bool) → (a || b) ≡ false → (a ≡ false) × (b ≡ false)
+pub neither : (a b : Bool) → (a || b) ≡ false → (a ≡ false) × (b ≡ false)
 neither true b e = absurd (subst (λ (t : Bool). cond t Unit ⊥) e tt)
 neither false b e = (refl, e)
 
 -- a check that refuses with another number is passed
-past : (t : Bool) (n : ℕ) {m : ℕ} (o : Reading) → (n ≡ m → ⊥) → cond t (refusedFrame n) o .number ≡ m → (t ≡ false) × (o .number ≡ m)
+pub past : (t : Bool) (n : ℕ) {m : ℕ} (o : Reading) → (n ≡ m → ⊥) → cond t (refusedFrame n) o .number ≡ m → (t ≡ false) × (o .number ≡ m)
 past true n o h e = absurd (h e)
 past false n o h e = (refl, e)
 
 pub record Passed (s : List ℕ) : Type 0 where
   pub low : 6 ≤ length s
   pub high : length s ≤ 255
+  pub stx : getD s 0 0 ≡ 2
+  pub etx : getD s (length s - 2) 0 ≡ 3
   pub inner-is : readFrame s ≡ readInner (inner s)
 
 -- checks 2 to 5
@@ -234,6 +236,8 @@ passed s n other e =
     record {
       low = ltb-false (length s) 6 (l .0);
       high = ltb-false 255 (length s) (l .1);
+      stx = eqb-true (getD s 0 0) 2 (not-false (eqb (getD s 0 0) 2) (b .0));
+      etx = eqb-true (getD s (length s - 2) 0) 3 (not-false (eqb (getD s (length s - 2) 0) 3) (c .0));
       inner-is = rw (a .0, b .0, c .0, d .0);
     }
 

@@ -2,6 +2,7 @@
 use Prim.Native.Nat.{ℕ, _+_, _≤_}
 use mathlib.Core.Path.{_≡_, refl, sym, ap, _∙_}
 use mathlib.Core.List.{List, [], _∷_, _++_, append-assoc}
+use native.Mathlib.Nat.{zero-add}
 use native.Mathlib.Omega.{arith}
 use lib.ListN.{length, take, drop, length-append}
 use lib.Seq.{slice, sets, sets-eq, take-at, drop-at, length-take-le}
@@ -33,6 +34,10 @@ written xs at vs h =
     let p : length (take at xs) ≡ at = length-take-le at xs (omega arith) in
     let q : length (take at xs ++ vs) ≡ at + length vs = omega (arith, length-append (take at xs) vs) in
     rw (sets-eq vs xs at h, take-at (take at xs ++ vs) (drop (at + length vs) xs) (at + length vs) q) (drop-at (take at xs) vs at p)
+
+-- at the front of an area they are its first bytes
+pub front-is : (xs vs : List ℕ) → length vs ≤ length xs → take (length vs) (sets xs 0 vs) ≡ vs
+front-is xs vs h = rw zero-add at (written xs 0 vs (omega arith))
 
 -- ---- an opening, a body and its closing, written one after the other, are a frame
 

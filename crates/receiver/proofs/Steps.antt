@@ -1,7 +1,7 @@
 -- Laws of one byte, and of a call that takes byte after byte.
 use Prim.Native.Nat.{ℕ, _+_, _-_, _≤_, _<_}
 use mathlib.Core.Path.{_≡_, refl, sym, ap, ap₂, _∙_}
-use mathlib.Core.Bool.{Bool, true, false, cond}
+use mathlib.Core.Bool.{true, false}
 use mathlib.Core.List.{List, [], _∷_, _++_}
 use native.Mathlib.Omega.{arith}
 use native.Mathlib.Numerals.{add-one}
@@ -11,10 +11,9 @@ use lib.ListN.{length, getD, take, drop, set}
 use lib.Seq.{length-take-le, take-suc-set, getD-take, sets}
 use Rattle.text.specs.Put.{PutAt}
 use Rattle.text.proofs.Laws.{here, over}
-use Rattle.receiver.specs.declared.receive.Reception.{Reception}
 use Rattle.receiver.specs.declared.receive.Step.{Step}
-use Rattle.receiver.specs.Rule.{Effect, dropped, begun, added, finished, ended, effect, heldAfter, ends}
-use Rattle.receiver.specs.Receive.{standing, heldIn, stored, Taken, oneMore, taken, took, received, Received, Stepped}
+use Rattle.receiver.specs.Rule.{dropped, begun, added, finished, ended, effect, heldAfter, ends}
+use Rattle.receiver.specs.Receive.{standing, heldIn, Taken, oneMore, taken, took, received, Received, Stepped}
 
 -- ---- what a byte is
 
@@ -132,7 +131,7 @@ module _ {t : Taken} (m s : List ℕ) (n i : ℕ) (g : Going t i (taken m (take 
         let p : ends (effect (take n m) (getD s i 0)) ≡ false = sym (x .done-is) ∙ d in
         let q : take (r .count) m′ ≡ heldAfter (effect (take n m) (getD s i 0)) (take n m) (getD s i 0) = rw d at (x .bytes-are) in
         let u : taken m (take n m) (drop i s) ≡ oneMore (taken m′ (take (r .count) m′) (drop (i + 1) s)) =
-          rw (here s i h, p) (ap₂ (λ (a l : List ℕ). oneMore (taken a l (drop (i + 1) s))) (sym (x .memory-is)) (sym q)) in
+        rw (here s i h, p) (ap₂ (λ (a l : List ℕ). oneMore (taken a l (drop (i + 1) s))) (sym (x .memory-is)) (sym q)) in
         let v = same g u in
         record { taken = omega (arith, v .taken); slice = v .slice; held = v .held; memory = v .memory }
 

@@ -11,6 +11,7 @@ ghost use Rattle.receiver.specs.Receive.{standing, heldIn, taken, took, 
 
 // What a call returns: the refusal number, or 0; how many bytes were taken; the length of the slice that was finished, 0 for
 // none.
+#[repr(C)]
 pub struct Reception {
     pub number: u8,
     pub taken: usize,
@@ -115,12 +116,7 @@ fn take_arrived(held: &mut [u8], count: &mut u8, arrived: &[u8], area: &mut [u8]
 // Takes bytes of what has arrived until a slice is finished or none is left. A finished slice stands at the front of the area,
 // and the rest of the area is untouched; without one the whole area is. An area under 255 bytes is refused with 1 ROOM:
 // nothing is taken, and nothing changes.
-pub fn receive(
-    held: &mut [u8; 255],
-    count: &mut u8,
-    arrived: &[u8],
-    area: &mut [u8],
-) -> Reception
+pub fn receive(held: &mut [u8; 255], count: &mut u8, arrived: &[u8], area: &mut [u8]) -> Reception
     ensures { λ r. ⌜ Received (received (now (held .entry)) (now (count .entry)) (now (arrived .entry)) (length (now (area .entry)))) (now (area .entry)) r (now (held .exit)) (now (count .exit)) (now (area .exit)) ⌝ }
 {
     if area.len() < 255 {

@@ -9,11 +9,10 @@ use native.Mathlib.Numerals.{add-one}
 use native.Mathlib.Omega.{arith}
 use borrow.Author.Tests.{eq-eqb, ne-eqb, eqb-true}
 use lib.ListN.{length, getD, take, drop, length-drop}
-use lib.Seq.{sets, length-sets, take-all, take-add, take-suc, length-take-le}
+use lib.Seq.{length-sets, take-all, take-add, take-suc, length-take-le}
 use lib.Dec.{eqb}
 use Rattle.text.specs.Scan.{until, before}
 use Rattle.text.proofs.Laws.{rest}
-use Rattle.frame.proofs.Writing.{written}
 use Rattle.tables.specs.Tables.{Tables}
 use Rattle.model.specs.Box.{Box, box, after, perform}
 use Rattle.lines.specs.Lines.{isCall, sliceOf}
@@ -21,12 +20,6 @@ use Rattle.lines.proofs.Laws.{put-behind}
 use Rattle.stream.specs.declared.input.Progress.{Progress}
 use Rattle.stream.specs.Answers.{lineCall, boxAfter, LineAnswered}
 use Rattle.stream.specs.Cell.{Cell, ended, extended, taken, takenAll, finished, cellOf, Within, Took}
-
--- ---- bytes in memory
-
--- bytes written at the front of a lent area are its first bytes
-pub front-is : (xs vs : List ℕ) → length vs ≤ length xs → take (length vs) (sets xs 0 vs) ≡ vs
-front-is xs vs h = rw zero-add at (written xs 0 vs (omega arith))
 
 -- ---- a line that has ended
 

@@ -1,6 +1,5 @@
-use Prim.Native.Nat.{ℕ, _+_, _-_, _≤_, _<_}
+use Prim.Native.Nat.{_-_, _≤_, _<_}
 use mathlib.Core.Path.{_≡_, refl, sym, ap, _∙_}
-use mathlib.Core.List.{List}
 use native.Mathlib.Omega.{arith}
 use borrow.Author.Needs.{needs}
 use lib.ListN.{length, take, drop}
@@ -11,11 +10,6 @@ use Rattle.receiver.specs.Receive.{taken}
 use Rattle.receiver.proofs.Steps.{Going, at-start, go-on, stop, run-out, with-slice, without-slice}
 use Rattle.receiver.proofs.receive.take_arrived.Statement.{statement}
 use Rattle.receiver.proofs.receive.take_arrived.Tie as tie
-use Rattle.receiver.proofs.receive.take_arrived.Reads as reads
-use Rattle.receiver.proofs.receive.take_arrived.Lts as lts
-use Rattle.receiver.proofs.receive.standing_of.Reads as standing-of-reads
-use Rattle.receiver.proofs.receive.take_byte.Reads as take-byte-reads
-use Rattle.text.proofs.put.put_bytes.Reads as put-bytes-reads
 
 abbrev Inv-loop : tie.InvT-loop
 Inv-loop held₀ count₀ arrived area₀ n₀ i₀ held count area n i =

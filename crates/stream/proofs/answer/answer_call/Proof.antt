@@ -7,6 +7,7 @@ use borrow.Author.Needs.{needs}
 use lib.ListN.{length, take}
 use lib.Seq.{length-take-le, length-sets}
 use Rattle.text.specs.Put.{PutAt}
+use Rattle.frame.proofs.Writing.{front-is}
 use Rattle.harl.specs.declared.message.Sent.{Sent}
 use Rattle.tables.specs.Tables.{Tables}
 use Rattle.model.specs.Box.{Box, answer}
@@ -15,7 +16,6 @@ use Rattle.gateway.proofs.Replies.{served-fits}
 use Rattle.lines.specs.Lines.{answerLine}
 use Rattle.lines.proofs.Laws.{answer-short}
 use Rattle.stream.specs.Answers.{lineCall, CallAnswered}
-use Rattle.stream.proofs.Laws.{front-is}
 use Rattle.stream.proofs.answer.answer_call.Statement.{statement}
 use Rattle.stream.proofs.answer.answer_call.Tie as tie
 

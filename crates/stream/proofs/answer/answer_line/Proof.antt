@@ -8,6 +8,7 @@ use borrow.Author.Needs.{needs}
 use lib.ListN.{length, take}
 use lib.Seq.{length-take-le}
 use Rattle.text.specs.Put.{PutAt}
+use Rattle.frame.proofs.Writing.{front-is}
 use Rattle.tables.specs.Tables.{Tables}
 use Rattle.model.specs.Box.{Box}
 use Rattle.lines.specs.declared.reader.Line.{Line}
@@ -15,7 +16,6 @@ use Rattle.lines.specs.declared.reader.Line.the-variants.{Slice}
 use Rattle.lines.specs.Lines.{isCall, sliceOf, lineOf, heldAfter, Short, noCallLine}
 use Rattle.lines.proofs.Laws.{held-length, read-slice, read-no-call}
 use Rattle.stream.specs.Answers.{lineAnswer, boxAfter, CallAnswered, LineAnswered}
-use Rattle.stream.proofs.Laws.{front-is}
 use Rattle.stream.proofs.answer.answer_line.Statement.{statement}
 use Rattle.stream.proofs.answer.answer_line.Tie as tie
 
