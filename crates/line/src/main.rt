@@ -71,7 +71,7 @@ fn read_stations(want: &mut [u16; 4]) -> bool {
                 want[i - 1] = v;
             }
             Argument::Other => {
-                complain(b"an argument is no whole number");
+                complain(b"an argument is no number of one to four digits");
                 return false;
             }
         }
