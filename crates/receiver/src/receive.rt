@@ -53,9 +53,10 @@ fn take_byte(held: &mut [u8], n: usize, b: u8) -> Step
 {
     if at_end(held, n) {
         held[n] = b;
+        let length = n + 1;
         return Step {
             done: true,
-            count: n + 1,
+            count: length,
         };
     }
     if b == STX {
@@ -73,9 +74,10 @@ fn take_byte(held: &mut [u8], n: usize, b: u8) -> Step
     }
     if n < 254 {
         held[n] = b;
+        let more = n + 1;
         return Step {
             done: false,
-            count: n + 1,
+            count: more,
         };
     }
     Step {

@@ -3,7 +3,6 @@ use mathlib.Core.Path.{sym}
 use native.Mathlib.Omega.{arith}
 use borrow.Author.Needs.{needs}
 use lib.Seq.{length-take-le}
-use Rattle.receiver.specs.Receive.{received}
 use Rattle.receiver.proofs.Got.{got-is}
 use Rattle.link.proofs.Laws.{none-served, reply-short, one-served}
 use Rattle.link.proofs.arrived.serve_next.Statement.{statement}

@@ -10,8 +10,8 @@ at-end-requires c κs = search needs
 slice-write-held : tie.Need-slice-write-held
 slice-write-held c = search needs
 
-add-t8 : tie.Need-add-t8
-add-t8 c = search needs
+add-length : tie.Need-add-length
+add-length c = search needs
 
 same-length : tie.Need-same-length
 same-length c = search needs
@@ -45,8 +45,8 @@ returns-3 c =
 slice-write-held-3 : tie.Need-slice-write-held-3
 slice-write-held-3 c = search needs
 
-add-t12 : tie.Need-add-t12
-add-t12 c = search needs
+add-more : tie.Need-add-more
+add-more c = search needs
 
 same-length-4 : tie.Need-same-length-4
 same-length-4 c = search needs
@@ -72,7 +72,7 @@ take-byte-spec =
     (tie.spec
     at-end-requires
     slice-write-held
-    add-t8
+    add-length
     same-length
     returns
     slice-write-held-2
@@ -81,7 +81,7 @@ take-byte-spec =
     same-length-3
     returns-3
     slice-write-held-3
-    add-t12
+    add-more
     same-length-4
     returns-4
     same-length-5
