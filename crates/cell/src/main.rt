@@ -3,10 +3,10 @@
 // between reading and writing is the crate `stream`.
 use libc::STDIN_FILENO;
 use libc::STDOUT_FILENO;
+use lines::collect::front;
 use slots::setup::setup;
 use stream::input::Progress;
 use stream::input::answer_last;
-use stream::input::front;
 use stream::input::take_block;
 ghost use mathlib.Core.Path.{_≡_};
 ghost use mathlib.Core.Logic.{_⊎_};

@@ -6,6 +6,14 @@ ghost use mathlib.Core.List.{_++_};
 ghost use Prim.Native.Nat.{_≤_};
 ghost use lib.ListN.{length, take};
 
+// The first n bytes of s.
+pub fn front(s: &[u8], n: usize) -> &[u8]
+    requires { ⌜ n ≤ length (now s) ⌝ }
+    ensures { λ r. ⌜ now r ≡ take n (now (s .entry)) ⌝ }
+{
+    &s[..n]
+}
+
 // Adds the bytes of s to the n bytes held. No more than 513 are kept: a line over 512 digits is no call,
 // whatever follows.
 pub fn take_bytes(held: &mut [u8], n: usize, s: &[u8]) -> usize

@@ -17,8 +17,8 @@ use Rattle.tables.specs.Tables.{Tables}
 use Rattle.model.specs.Box.{Box, box, after, perform}
 use Rattle.lines.specs.Lines.{isCall, sliceOf}
 use Rattle.lines.proofs.Laws.{put-behind}
+use Rattle.answers.specs.Answers.{lineCall, boxAfter, LineAnswered}
 use Rattle.stream.specs.declared.input.Progress.{Progress}
-use Rattle.stream.specs.Answers.{lineCall, boxAfter, LineAnswered}
 use Rattle.stream.specs.Cell.{Cell, ended, extended, taken, takenAll, finished, cellOf, Within, Took}
 
 -- ---- a line that has ended

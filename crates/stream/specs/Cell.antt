@@ -7,8 +7,8 @@ use lib.ListN.{length, take}
 use lib.Dec.{eqb}
 use Rattle.tables.specs.Tables.{Tables}
 use Rattle.model.specs.Box.{Box, box}
+use Rattle.answers.specs.Answers.{lineAnswer, boxAfter}
 use Rattle.stream.specs.declared.input.Progress.{Progress}
-use Rattle.stream.specs.Answers.{lineAnswer, boxAfter}
 
 -- the box, what is held of the line that has not ended, the answers that wait to be written
 pub record Cell : Type 0 where

@@ -6,7 +6,7 @@ use mathlib.Core.Bool.{cond}
 use mathlib.Core.List.{List, [], _∷_, _++_, flatten}
 use lib.Dec.{eqb}
 use Rattle.model.specs.Box.{Box}
-use Rattle.stream.specs.Answers.{lineAnswer, boxAfter}
+use Rattle.answers.specs.Answers.{lineAnswer, boxAfter}
 use Rattle.stream.specs.Cell.{Cell, takenAll, finished}
 
 -- ---- the lines of an input

@@ -1,11 +1,12 @@
 // Input taken line by line, while the output has room for another answer.
-use crate::answer::answer_line;
+use answers::answer::answer_line;
+use lines::collect::front;
 use lines::collect::take_bytes;
 use text::scan::find;
 ghost use mathlib.Core.Path.{_≡_};
 ghost use mathlib.Core.Logic.{_⊎_};
 ghost use Prim.Native.Nat.{_+_, _<_, _≤_};
-ghost use lib.ListN.{length, take};
+ghost use lib.ListN.{length};
 ghost use Rattle.tables.specs.Tables.{tables};
 ghost use Rattle.stream.specs.Cell.{Within, cellOf, ended, finished, Took};
 
@@ -20,14 +21,6 @@ pub struct Progress {
 pub struct Part {
     pub taken: usize,
     pub state: Progress,
-}
-
-// The first n bytes of s.
-pub fn front(s: &[u8], n: usize) -> &[u8]
-    requires { ⌜ n ≤ length (now s) ⌝ }
-    ensures { λ r. ⌜ now r ≡ take n (now (s .entry)) ⌝ }
-{
-    &s[..n]
 }
 
 // Answers the line that is held, which has ended.

@@ -8,7 +8,7 @@ ghost use Prim.Native.Nat.{_+_, _≤_};
 ghost use lib.ListN.{length};
 ghost use Rattle.tables.specs.Tables.{tables};
 ghost use Rattle.model.specs.Box.{box};
-ghost use Rattle.stream.specs.Answers.{CallAnswered, LineAnswered};
+ghost use Rattle.answers.specs.Answers.{CallAnswered, LineAnswered};
 
 // Serves one call, and puts the line of its answer at `at`. Returns the next place.
 fn answer_call(

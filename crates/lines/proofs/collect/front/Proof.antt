@@ -1,8 +1,8 @@
 use mathlib.Core.Path.{sym}
 use borrow.Author.Needs.{needs}
 use lib.Seq.{length-take-le}
-use Rattle.stream.proofs.input.front.Statement.{statement}
-use Rattle.stream.proofs.input.front.Tie as tie
+use Rattle.lines.proofs.collect.front.Statement.{statement}
+use Rattle.lines.proofs.collect.front.Tie as tie
 
 slice-aggregate-result : tie.Need-slice-aggregate-result
 slice-aggregate-result c = sym (length-take-le (c .before .args .n) (c .before .args .s .now) (c .before .pre))

@@ -15,9 +15,9 @@ use Rattle.gateway.specs.Entries.{Served}
 use Rattle.gateway.proofs.Replies.{served-fits}
 use Rattle.lines.specs.Lines.{answerLine}
 use Rattle.lines.proofs.Laws.{answer-short}
-use Rattle.stream.specs.Answers.{lineCall, CallAnswered}
-use Rattle.stream.proofs.answer.answer_call.Statement.{statement}
-use Rattle.stream.proofs.answer.answer_call.Tie as tie
+use Rattle.answers.specs.Answers.{lineCall, CallAnswered}
+use Rattle.answers.proofs.answer.answer_call.Statement.{statement}
+use Rattle.answers.proofs.answer.answer_call.Tie as tie
 
 module _ {b : Box} {slice xs ys : List ℕ} {sent : Sent} {t : Tables} (room : length xs ≡ 64) (s : Served b slice xs sent t ys) where
   within : sent .length ≤ length ys

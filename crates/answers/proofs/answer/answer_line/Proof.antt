@@ -15,9 +15,9 @@ use Rattle.lines.specs.declared.reader.Line.{Line}
 use Rattle.lines.specs.declared.reader.Line.the-variants.{Slice}
 use Rattle.lines.specs.Lines.{isCall, sliceOf, lineOf, heldAfter, Short, noCallLine}
 use Rattle.lines.proofs.Laws.{held-length, read-slice, read-no-call}
-use Rattle.stream.specs.Answers.{lineAnswer, boxAfter, CallAnswered, LineAnswered}
-use Rattle.stream.proofs.answer.answer_line.Statement.{statement}
-use Rattle.stream.proofs.answer.answer_line.Tie as tie
+use Rattle.answers.specs.Answers.{lineAnswer, boxAfter, CallAnswered, LineAnswered}
+use Rattle.answers.proofs.answer.answer_line.Statement.{statement}
+use Rattle.answers.proofs.answer.answer_line.Tie as tie
 
 -- ---- a line that is a slice of n bytes, which stand at the front of sl
 
