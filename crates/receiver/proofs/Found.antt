@@ -1,6 +1,6 @@
 -- A sound frame after noise, with nothing held before it, is handed out.
 use Prim.Native.Nat.{ℕ, _+_, _-_, _≤_, _<_}
-use mathlib.Core.Path.{_≡_, refl, sym, subst, _∙_}
+use mathlib.Core.Path.{_≡_, refl, sym, ap, subst, _∙_}
 use mathlib.Core.Bool.{false}
 use mathlib.Core.List.{List, [], _∷_, _++_, append-assoc}
 use native.Mathlib.Omega.{arith}
@@ -10,10 +10,11 @@ use lib.ListN.{length, length-append}
 use lib.Seq.{getD-append-seam}
 use Rattle.frame.specs.Frame.{Printable}
 use Rattle.frame.proofs.Sound.{Sound, sound}
-use Rattle.receiver.specs.Rule.{ended, slicesFrom}
+use Rattle.receiver.specs.Rule.{ended, slicesFrom, slices, heldAtEnd}
 use Rattle.receiver.specs.Shape.{Noise, SoundFound}
 use Rattle.receiver.proofs.Steps.{is-finished, is-begun, is-noise, is-added}
 use Rattle.receiver.proofs.Cut.{slices-cut}
+use Rattle.receiver.proofs.Line.{whole-line}
 
 none-ended : ended [] ≡ false
 unfolding ended
@@ -57,6 +58,11 @@ sound-ends frame rest s =
     subst (λ (f : List ℕ). slicesFrom [] (f ++ rest) ≡ f ∷ slicesFrom [] rest) (sym (s .frame-is))
     (rw (append-assoc (s .text) (3 ∷ s .lrc ∷ []) rest) (frame-ends (s .text) (s .lrc) rest (s .text-is) (s .fits)))
 
+-- behind bytes that leave nothing held, and noise
+next-found : (before noise frame rest : List ℕ) → heldAtEnd before ≡ [] → Noise noise → Sound frame → slices (before ++ (noise ++ (frame ++ rest))) ≡ slices before ++ (frame ∷ slices rest)
+next-found before noise frame rest h n s =
+    slices-cut [] before (noise ++ (frame ++ rest)) ∙ rw (h, quiet noise (frame ++ rest) n, sound-ends frame rest s)
+
 pub sound-found : SoundFound
-sound-found before noise frame rest h n e =
-    slices-cut [] before (noise ++ (frame ++ rest)) ∙ rw (h, quiet noise (frame ++ rest) n, sound-ends frame rest (sound frame e))
+sound-found m cs before noise frame rest h l e n f =
+    whole-line m cs h ∙ ap slices l ∙ next-found before noise frame rest e n (sound frame f)

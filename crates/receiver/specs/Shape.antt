@@ -5,7 +5,7 @@ use mathlib.Core.List.{List, [], _∷_, _++_}
 use lib.ListN.{length, getD}
 use Rattle.frame.specs.Frame.{readFrame}
 use Rattle.receiver.specs.Rule.{slices, heldAtEnd}
-use Rattle.receiver.specs.Line.{Made, History, handed}
+use Rattle.receiver.specs.Line.{Made, History, handed, line}
 
 -- 3 to 255 bytes, the first of them STX, the last but one ETX
 pub record Shaped (s : List ℕ) : Type 0 where
@@ -33,11 +33,13 @@ Noise [] = Unit
 Noise (b ∷ bs) = (b ≡ 2 → ⊥) × Noise bs
 
 -- where nothing is held, as before any slice and after one that was dropped or finished, the next sound frame, after noise or
--- none, is the next slice, as it stands
+-- none, is the next slice that is handed out, as it stands
 abbrev pub SoundFound : Type 0
 SoundFound =
-    (before noise frame rest : List ℕ)
+    (m : List ℕ) (cs : List Made) (before noise frame rest : List ℕ)
+    → History m 0 cs
+    → line cs ≡ before ++ (noise ++ (frame ++ rest))
     → heldAtEnd before ≡ []
     → Noise noise
     → readFrame frame .number ≡ 0
-    → slices (before ++ (noise ++ (frame ++ rest))) ≡ slices before ++ (frame ∷ slices rest)
+    → handed cs ≡ slices before ++ (frame ∷ slices rest)
