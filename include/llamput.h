@@ -1,12 +1,16 @@
 // The entries of libllamput.a, which `rt staticlib llamput` writes for programs on x86-64 Linux.
 //
-// The caller owns all memory. No two areas overlap. No pointer is null; one to an area of length 0 may be any other.
+// The caller owns all memory. No two areas overlap, but the buffers of two ports may. No pointer is null; one to an area of
+// length 0 may be any other.
 // The tables of a box come in the order timers, registers, x, y, z, w, inputs, outputs, memory, on. The first index of
 // each is the slot. Timers, x, y, z and w are in hundredths; inputs, outputs and memory are ports of eight bits; on is the
 // number of outputs that are on, which setup and serving keep. programs is a memory of 40,960 bytes for the START programs
-// of the four arms (docs/MEMORY.md). stations has the station of each slot, 0 where it is unfitted.
+// of the four arms (docs/MEMORY.md). stations has the station of each slot, 0 where it is unfitted. turn is a byte for boxes with
+// two ports, A and B, each with a computer: the port that was served last, 1 for A, 2 for B; 0, as setup leaves it, and every
+// other value mean neither.
 //
 // Refusal numbers, in the order checked; 0 is no refusal:
+//  17 IDLE     neither of two ports has a slice waiting, before all others
 //   1 ROOM     the reply area is under 64 bytes,         8 ABSENT   no fitted arm has the station
 //              programs has another length, or           9 COMMAND  the first field is no command
 //              the area for a slice is under 255 bytes
@@ -49,12 +53,27 @@ struct llamput_received {
     size_t length;
 };
 
-// Sets up a new box, whatever the memory held: every table and programs zero, each slot with its station from want, 0 for
-// none. Returns 0, or 1 or 13 where it refuses: then every table is zero, no slot is fitted, and programs is untouched.
+// What llamput_choose returns: the refusal number, or 0; the port that is picked, 0 for none, 1 for A, 2 for B; and the length
+// of the slice that waits there, from the start of its buffer, 0 for none.
+struct llamput_choice {
+    uint8_t number;
+    uint8_t port;
+    size_t length;
+};
+
+// What llamput_serve_next returns: the port that was served, 0 for none, 1 for A, 2 for B; and what serving its slice returned.
+struct llamput_next {
+    uint8_t port;
+    struct llamput_sent sent;
+};
+
+// Sets up a new box, whatever the memory held: every table, programs and *turn zero, each slot with its station from want, 0 for
+// none. Returns 0, or 1 or 13 where it refuses: then every table and *turn are zero, no slot is fitted, and programs is
+// untouched.
 uint8_t llamput_setup(uint16_t timers[4][16], uint16_t registers[4][64], int32_t x[4][100], int32_t y[4][100],
                       int32_t z[4][100], int32_t w[4][100], uint8_t inputs[4][32], uint8_t outputs[4][32],
                       uint8_t memory[4][16], uint16_t on[4], uint8_t *programs, size_t programs_length,
-                      uint8_t stations[4], const uint16_t want[4]);
+                      uint8_t stations[4], uint8_t *turn, const uint16_t want[4]);
 
 // Serves a slice that should be one frame: performs its request on the arm addressed, and writes the reply into reply.
 // Refusals 1 to 8 write no reply, 9 to 12 and 16 do; none changes a table or programs. Bytes of reply past the length
@@ -84,6 +103,22 @@ struct llamput_count llamput_outputs_on(const uint16_t on[4], const uint8_t stat
 // where area_length is under 255: then nothing is taken, and nothing changes.
 struct llamput_received llamput_receive(uint8_t held[255], uint8_t *count, const uint8_t *arrived, size_t arrived_length,
                                         uint8_t *area, size_t area_length);
+
+// Picks which of two ports is served next. Each lends a buffer, a of a_length bytes and b of b_length, the first waiting_a and
+// waiting_b bytes of which are a slice that waits; a waiting length of 0, or beyond the buffer, means none. When both wait, the
+// port not served last goes, and A in a new box. *turn then keeps the port that was picked. Refuses with 17 where neither
+// waits: then the port and the length are 0, and *turn is as it was.
+struct llamput_choice llamput_choose(uint8_t *turn, const uint8_t *a, size_t a_length, size_t waiting_a, const uint8_t *b,
+                                     size_t b_length, size_t waiting_b);
+
+// Picks as llamput_choose does, and serves the slice that waits as llamput_serve does; where that refuses it, the turn is used
+// all the same. Refuses with 17, before all other checks, where neither port waits: then nothing changes.
+struct llamput_next llamput_serve_next(uint16_t timers[4][16], uint16_t registers[4][64], int32_t x[4][100],
+                                       int32_t y[4][100], int32_t z[4][100], int32_t w[4][100], uint8_t inputs[4][32],
+                                       uint8_t outputs[4][32], uint8_t memory[4][16], uint16_t on[4], uint8_t *programs,
+                                       size_t programs_length, const uint8_t stations[4], uint8_t *turn,
+                                       const uint8_t *a, size_t a_length, size_t waiting_a, const uint8_t *b,
+                                       size_t b_length, size_t waiting_b, uint8_t *reply, size_t reply_length);
 
 #ifdef __cplusplus
 }

@@ -256,6 +256,7 @@ fn main() {
     let mut on = [0u16; 4];
     let mut programs = [0u8; 40960];
     let mut stations = [0u8; 4];
+    let mut turn = 0;
     setup(
         &mut timers,
         &mut registers,
@@ -269,6 +270,7 @@ fn main() {
         &mut on,
         &mut programs[..],
         &mut stations,
+        &mut turn,
         [1, 2, 3, 4],
     );
     answer_all(

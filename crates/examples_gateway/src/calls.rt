@@ -53,6 +53,7 @@ fn set_up_other(p: &mut [u8], want: [u16; 4]) {
     let mut m = [[7u8; 16]; 4];
     let mut on = [7u16; 4];
     let mut s = [7u8; 4];
+    let mut turn = 7;
     put_two(setup(
         &mut t,
         &mut d,
@@ -66,6 +67,7 @@ fn set_up_other(p: &mut [u8], want: [u16; 4]) {
         &mut on,
         p,
         &mut s,
+        &mut turn,
         want,
     ));
     put_stations(&s);
@@ -213,7 +215,23 @@ fn make(
 ) {
     match step {
         Step::Setup => {
-            put_two(setup(t, d, x, y, z, w, i, o, m, on, p, s, stations(line, 1)));
+            let mut turn = 7;
+            put_two(setup(
+                t,
+                d,
+                x,
+                y,
+                z,
+                w,
+                i,
+                o,
+                m,
+                on,
+                p,
+                s,
+                &mut turn,
+                stations(line, 1),
+            ));
             put_stations(s);
         }
         Step::Input => {

@@ -62,7 +62,7 @@ history-answers k (m ∷ ms) b h =
     (history-answers k ms (box (b .stations) (tablesAfter b m)) (h .1) ∙ ap (λ d. answersTo k d (map callOf ms)) (made-box b m (h .0)))
 
 pub code-isolated : CodeIsolated
-code-isolated want m number st t ms s h k f =
+code-isolated want m number st turn t ms s h k f =
     let e : box st t ≡ setup want m = ap₂ box (s .stations-are) (s .tables-are) in
     let cs : List Call = map callOf ms in
     let i : Isolated (box st t) k cs = rw e (demand3 want m cs .alone k (rw (← s .stations-are) f)) in

@@ -70,6 +70,6 @@ pub record Alone (b : Box) (k : ℕ) (ms : List Made) : Type 0 where
 
 abbrev pub CodeIsolated : Type 0
 CodeIsolated =
-    (want m : List ℕ) (number : ℕ) (st : List ℕ) (t : Tables) (ms : List Made)
-    → SetUp want m number st t → History (box st t) ms
+    (want m : List ℕ) (number : ℕ) (st : List ℕ) (turn : ℕ) (t : Tables) (ms : List Made)
+    → SetUp want m number st turn t → History (box st t) ms
     → (k : ℕ) → Fitted k st → Alone (box st t) k ms

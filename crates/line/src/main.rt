@@ -208,6 +208,7 @@ fn main() {
     let mut on = [0u16; 4];
     let mut programs = [0u8; 40960];
     let mut stations = [0u8; 4];
+    let mut turn = 0;
     let refused = setup(
         &mut timers,
         &mut registers,
@@ -221,6 +222,7 @@ fn main() {
         &mut on,
         &mut programs[..],
         &mut stations,
+        &mut turn,
         want,
     );
     if refused != 0 {

@@ -8,9 +8,9 @@ use Rattle.gateway.proofs.History.{code-isolated}
 use Rattle.link.specs.History.{LineIsolated}
 
 pub line-isolated : LineIsolated
-line-isolated want p number st t ms m cs s h r e =
+line-isolated want p number st turn t ms m cs s h r e =
     record {
       slices-are = e ∙ whole-line m cs r;
       demand3 = demand3 want p (map callOf ms);
-      alone = code-isolated want p number st t ms s h;
+      alone = code-isolated want p number st turn t ms s h;
     }

@@ -30,8 +30,8 @@ pub record OnLine (want p st : List ℕ) (t : Tables) (ms : List Made) (cs : Lis
 
 abbrev pub LineIsolated : Type 0
 LineIsolated =
-    (want p : List ℕ) (number : ℕ) (st : List ℕ) (t : Tables) (ms : List Made) (m : List ℕ) (cs : List receiver.Made)
-    → SetUp want p number st t → History (box st t) ms
+    (want p : List ℕ) (number : ℕ) (st : List ℕ) (turn : ℕ) (t : Tables) (ms : List Made) (m : List ℕ) (cs : List receiver.Made)
+    → SetUp want p number st turn t → History (box st t) ms
     → receiver.History m 0 cs
     → slicesServed ms ≡ receiver.handed cs
     → OnLine want p st t ms cs

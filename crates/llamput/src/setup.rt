@@ -17,9 +17,10 @@ pub extern "C" fn llamput_setup(
     on: &mut [u16; 4],
     programs: &mut [u8],
     stations: &mut [u8; 4],
+    turn: &mut u8,
     want: &[u16; 4],
 ) -> u8
-    ensures { λ r. ⌜ SetUp (now (want .entry)) (now (programs .entry)) r (now (stations .exit)) (tables (now (timers .exit)) (now (registers .exit)) (now (x .exit)) (now (y .exit)) (now (z .exit)) (now (w .exit)) (now (inputs .exit)) (now (outputs .exit)) (now (memory .exit)) (now (on .exit)) (now (programs .exit))) ⌝ }
+    ensures { λ r. ⌜ SetUp (now (want .entry)) (now (programs .entry)) r (now (stations .exit)) (now (turn .exit)) (tables (now (timers .exit)) (now (registers .exit)) (now (x .exit)) (now (y .exit)) (now (z .exit)) (now (w .exit)) (now (inputs .exit)) (now (outputs .exit)) (now (memory .exit)) (now (on .exit)) (now (programs .exit))) ⌝ }
 {
     slots::setup::setup(
         timers,
@@ -34,6 +35,7 @@ pub extern "C" fn llamput_setup(
         on,
         programs,
         stations,
+        turn,
         *want,
     )
 }

@@ -118,6 +118,7 @@ fn main() {
     let mut on = [0u16; 4];
     let mut programs = [0u8; 40960];
     let mut stations = [0u8; 4];
+    let mut turn = 0;
     setup(
         &mut timers,
         &mut registers,
@@ -131,6 +132,7 @@ fn main() {
         &mut on,
         &mut programs[..],
         &mut stations,
+        &mut turn,
         [1, 2, 3, 4],
     );
     let mut input = io::large_buffer();

@@ -3,16 +3,18 @@ use Prim.Native.Nat.{ℕ}
 use mathlib.Core.Path.{_≡_}
 use mathlib.Core.List.{List}
 use lib.ListN.{getD}
+use Rattle.chooser.specs.Turn.{fresh}
 use Rattle.tables.specs.Tables.{Tables, withOn}
 use Rattle.slots.specs.declared.count.Count.{Count}
 use Rattle.model.specs.Call.{input, outputsOn, Answer}
 use Rattle.model.specs.Setup.{setupRefusal}
 use Rattle.model.specs.Box.{Box, box, setup, after, answer}
 
--- setup, of the station numbers and the memory as it is lent: the number, the stations and every table
-pub record SetUp (want m : List ℕ) (number : ℕ) (st : List ℕ) (t : Tables) : Type 0 where
+-- setup, of the station numbers and the memory as it is lent: the number, the stations, the turn and every table
+pub record SetUp (want m : List ℕ) (number : ℕ) (st : List ℕ) (turn : ℕ) (t : Tables) : Type 0 where
   pub number-is : number ≡ setupRefusal want m
   pub stations-are : st ≡ setup want m .stations
+  pub turn-is : turn ≡ fresh
   pub tables-are : t ≡ setup want m .tables
 
 -- an input call: the number and every table

@@ -1,4 +1,5 @@
 // Setup: a new box in memory that the caller lends.
+use chooser::choose::NONE;
 use programs::memory::SIZE;
 ghost use Prim.Native.Nat.{ℕ};
 ghost use mathlib.Core.Path.{_≡_};
@@ -96,8 +97,9 @@ fn clear(
     *on = [0; 4];
 }
 
-// Sets up a new box, whatever the memory held: every table zero, the START programs cleared, and each slot with its station, or
-// unfitted where it is 0. Refused: number 1 or 13, no slot is fitted, and the START programs are untouched.
+// Sets up a new box, whatever the memory held: every table zero, the START programs cleared, each slot with its station, or
+// unfitted where it is 0, and no port served last. Refused: number 1 or 13, no slot is fitted, and the START programs are
+// untouched.
 pub fn setup(
     timers: &mut [[u16; 16]; 4],
     registers: &mut [[u16; 64]; 4],
@@ -111,11 +113,13 @@ pub fn setup(
     on: &mut [u16; 4],
     programs: &mut [u8],
     stations: &mut [u8; 4],
+    turn: &mut u8,
     want: [u16; 4],
 ) -> u8
-    ensures { λ r. ⌜ SetUp want (now (programs .entry)) r (now (stations .exit)) (tables (now (timers .exit)) (now (registers .exit)) (now (x .exit)) (now (y .exit)) (now (z .exit)) (now (w .exit)) (now (inputs .exit)) (now (outputs .exit)) (now (memory .exit)) (now (on .exit)) (now (programs .exit))) ⌝ }
+    ensures { λ r. ⌜ SetUp want (now (programs .entry)) r (now (stations .exit)) (now (turn .exit)) (tables (now (timers .exit)) (now (registers .exit)) (now (x .exit)) (now (y .exit)) (now (z .exit)) (now (w .exit)) (now (inputs .exit)) (now (outputs .exit)) (now (memory .exit)) (now (on .exit)) (now (programs .exit))) ⌝ }
 {
     clear(timers, registers, x, y, z, w, inputs, outputs, memory, on);
+    *turn = NONE;
     let number = judge_setup(programs, want);
     if number != 0 {
         *stations = [0; 4];

@@ -7,11 +7,11 @@ use Rattle.positions.proofs.main.Statement.{statement}
 use Rattle.positions.proofs.main.Tie as tie
 
 abbrev Inv-loop : tie.InvT-loop
-Inv-loop timers₀ registers₀ x₀ y₀ z₀ w₀ inputs₀ outputs₀ memory₀ on₀ programs₀ stations input₀ held₀ n₀ t16 counter₀ timers registers x y z w inputs outputs memory on programs input held n counter =
+Inv-loop timers₀ registers₀ x₀ y₀ z₀ w₀ inputs₀ outputs₀ memory₀ on₀ programs₀ stations turn input₀ held₀ n₀ t17 counter₀ timers registers x y z w inputs outputs memory on programs input held n counter =
     (65536 ≡ length input) × ((40960 ≡ length programs) × (counter ≤ 18446744073709551615))
 
 abbrev μ-loop : tie.MeasureT-loop
-μ-loop timers₀ registers₀ x₀ y₀ z₀ w₀ inputs₀ outputs₀ memory₀ on₀ programs₀ stations input₀ held₀ n₀ t16 counter₀ timers registers x y z w inputs outputs memory on programs input held n counter =
+μ-loop timers₀ registers₀ x₀ y₀ z₀ w₀ inputs₀ outputs₀ memory₀ on₀ programs₀ stations turn input₀ held₀ n₀ t17 counter₀ timers registers x y z w inputs outputs memory on programs input held n counter =
     18446744073709551615 - counter
 
 slice-aggregate-setup : tie.Need-slice-aggregate-setup Inv-loop μ-loop

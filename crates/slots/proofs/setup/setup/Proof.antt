@@ -1,6 +1,6 @@
 -- Accepted, `want` is its four elements, each at most 99, so that its casts are itself.
 use Prim.Native.Nat.{ℕ, _≤_}
-use mathlib.Core.Path.{sym, _∙_}
+use mathlib.Core.Path.{refl, sym, _∙_}
 use native.Mathlib.Omega.{arith}
 use borrow.Author.Needs.{needs}
 use borrow.Kind.Array.{eInt, good-length}
@@ -11,7 +11,7 @@ use Rattle.slots.proofs.setup.setup.Statement.{statement}
 use Rattle.slots.proofs.setup.setup.Tie as tie
 
 -- where setup is accepted, a station fits a byte
-fits : (c : tie.Else1) (k : ℕ) → getD (c .before .before .before .before .before .before .before .before .before .before .before .before .before .before .before .args .t13) k 0 ≤ 99
+fits : (c : tie.Else1) (k : ℕ) → getD (c .before .before .before .before .before .before .before .before .before .before .before .before .before .before .before .args .t14) k 0 ≤ 99
 fits c k = accepted-small _ _ k (sym (c .before .judge-setup .ensures) ∙ c .if1 .left)
 
 returns : tie.Need-returns
@@ -20,6 +20,7 @@ returns c =
     record {
       number-is = j .judge-setup .ensures;
       stations-are = refused-stations _ _ (λ e. c .before .if1 .taken (j .judge-setup .ensures ∙ e));
+      turn-is = refl;
       tables-are = j .before .before .clear .ensures _ ∙ refused-tables _ _ (λ e. c .before .if1 .taken (j .judge-setup .ensures ∙ e));
     }
 
@@ -32,7 +33,8 @@ returns-2 c =
     let e = sym (j .judge-setup .ensures) ∙ i .if1 .left in
     record {
       number-is = sym e;
-      stations-are = accepted-stations (s .args .t13) _ (good-length (eInt w16) 4 (s .args .t13) _ (s .good .1 .1 .1 .1 .1 .1 .1 .1 .1 .1 .1 .1 .0)) e;
+      stations-are = accepted-stations (s .args .t14) _ (good-length (eInt w16) 4 (s .args .t14) _ (s .good .1 .1 .1 .1 .1 .1 .1 .1 .1 .1 .1 .1 .1 .0)) e;
+      turn-is = refl;
       tables-are = j .before .before .clear .ensures _ ∙ accepted-tables _ _ _ e (k .clear2 .ensures);
     }
 

@@ -1,0 +1,44 @@
+-- `d` is where the port was chosen.
+use mathlib.Core.Path.{refl, sym, _∙_}
+use borrow.Author.Needs.{needs}
+use Rattle.chooser.proofs.Picks.{none-idle}
+use Rattle.harl.proofs.Laws.{wrote-none}
+use Rattle.hosts.proofs.next.serve_next.Statement.{statement}
+use Rattle.hosts.proofs.next.serve_next.Tie as tie
+
+-- neither waits
+returns : tie.Need-returns
+returns c =
+    let d = c .before .before .choose .ensures in
+    let e = sym (d .port-is) ∙ c .before .if1 .taken in
+    record {
+      port-is = d .port-is;
+      turn-is = d .turn-is;
+      idle = λ z. record { answer-is = wrote-none (c .refusal .ensures ∙ rw (d .number-is, none-idle _ _ e)); tables-are = refl };
+      served = λ k. absurd (k e);
+    }
+
+-- one does
+returns-2 : tie.Need-returns-2
+returns-2 c =
+    let s = c .before .before .before .before in
+    let i = s .before .before .before .before .before .before .before .before .before .before .before .before .before in
+    let d = i .before .choose .ensures in
+    record {
+      port-is = d .port-is;
+      turn-is = d .turn-is;
+      idle = λ e. absurd (i .if1 .left (d .port-is ∙ e));
+      served = λ k. rw (← d .part-is) (s .serve .ensures);
+    }
+
+pub serve-next-spec : {M : Type 1} → statement M
+serve-next-spec =
+    tie.close
+    (tie.spec
+    (λ c κs. search needs)
+    (λ c κs. search needs)
+    returns
+    (λ c κs. search needs)
+    (λ c. search needs)
+    (λ c. search needs)
+    returns-2)

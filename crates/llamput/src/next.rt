@@ -1,0 +1,52 @@
+// Serving the next of two ports, exported.
+use hosts::next::Next;
+ghost use Rattle.chooser.specs.Turn.{buffers};
+ghost use Rattle.tables.specs.Tables.{tables};
+ghost use Rattle.model.specs.Box.{box};
+ghost use Rattle.hosts.specs.Next.{NextServed};
+
+// Picks the port whose turn it is, and serves its waiting slice.
+#[no_mangle]
+pub extern "C" fn llamput_serve_next<'a>(
+    timers: &mut [[u16; 16]; 4],
+    registers: &mut [[u16; 64]; 4],
+    x: &mut [[i32; 100]; 4],
+    y: &mut [[i32; 100]; 4],
+    z: &mut [[i32; 100]; 4],
+    w: &mut [[i32; 100]; 4],
+    inputs: &mut [[u8; 32]; 4],
+    outputs: &mut [[u8; 32]; 4],
+    memory: &mut [[u8; 16]; 4],
+    on: &mut [u16; 4],
+    programs: &mut [u8],
+    stations: &[u8; 4],
+    turn: &mut u8,
+    a: &'a [u8],
+    waiting_a: usize,
+    b: &'a [u8],
+    waiting_b: usize,
+    reply: &mut [u8],
+) -> Next
+    ensures { λ r. ⌜ NextServed (box (now (stations .entry)) (tables (now (timers .entry)) (now (registers .entry)) (now (x .entry)) (now (y .entry)) (now (z .entry)) (now (w .entry)) (now (inputs .entry)) (now (outputs .entry)) (now (memory .entry)) (now (on .entry)) (now (programs .entry)))) (now (turn .entry)) (buffers (now (a .entry)) «waiting_a» (now (b .entry)) «waiting_b») (now (reply .entry)) r (now (turn .exit)) (tables (now (timers .exit)) (now (registers .exit)) (now (x .exit)) (now (y .exit)) (now (z .exit)) (now (w .exit)) (now (inputs .exit)) (now (outputs .exit)) (now (memory .exit)) (now (on .exit)) (now (programs .exit))) (now (reply .exit)) ⌝ }
+{
+    hosts::next::serve_next(
+        timers,
+        registers,
+        x,
+        y,
+        z,
+        w,
+        inputs,
+        outputs,
+        memory,
+        on,
+        programs,
+        stations,
+        turn,
+        a,
+        waiting_a,
+        b,
+        waiting_b,
+        reply,
+    )
+}
