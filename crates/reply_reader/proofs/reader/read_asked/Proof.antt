@@ -17,11 +17,11 @@ use Rattle.frame.proofs.Placed.{placed-texts, placed-only, placed-next}
 use Rattle.commands.specs.declared.table.Form.the-variants.{Texts}
 use Rattle.data.specs.Data.{readData}
 use Rattle.data.proofs.Texts.{no-fields}
-use Rattle.replies.specs.declared.reply.Carried.{Carried}
-use Rattle.replies.specs.declared.reply.Carried.the-variants.{Nothing}
-use Rattle.replies.specs.Reply.{readContent, asData}
-use Rattle.replies.proofs.reply.read_asked.Statement.{statement}
-use Rattle.replies.proofs.reply.read_asked.Tie as tie
+use Rattle.reply_reader.specs.declared.reader.Carried.{Carried}
+use Rattle.reply_reader.specs.declared.reader.Carried.the-variants.{Nothing}
+use Rattle.reply_reader.specs.Reader.{readContent, asData}
+use Rattle.reply_reader.proofs.reader.read_asked.Statement.{statement}
+use Rattle.reply_reader.proofs.reader.read_asked.Tie as tie
 
 module _ (asked : ℕ) (s : List ℕ) where
   promised : Carried

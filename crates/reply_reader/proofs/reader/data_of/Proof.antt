@@ -1,6 +1,6 @@
 use borrow.Author.Needs.{needs}
-use Rattle.replies.proofs.reply.data_of.Statement.{statement}
-use Rattle.replies.proofs.reply.data_of.Tie as tie
+use Rattle.reply_reader.proofs.reader.data_of.Statement.{statement}
+use Rattle.reply_reader.proofs.reader.data_of.Tie as tie
 
 returns : tie.Need-returns
 returns c = rw (c .before .before .before .form .given .1, ← c .before .row-in .ensures) (c .numbers-of .ensures)

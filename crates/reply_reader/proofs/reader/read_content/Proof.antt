@@ -10,9 +10,9 @@ use Rattle.frame.specs.Fields.{fields}
 use Rattle.commands.specs.declared.request.Payload.{Payload}
 use Rattle.commands.specs.declared.request.Payload.the-variants as payload
 use Rattle.data.specs.Data.{readData, dataWith, dataIn}
-use Rattle.replies.specs.Reply.{asData}
-use Rattle.replies.proofs.reply.read_content.Statement.{statement}
-use Rattle.replies.proofs.reply.read_content.Tie as tie
+use Rattle.reply_reader.specs.Reader.{asData}
+use Rattle.reply_reader.proofs.reader.read_content.Statement.{statement}
+use Rattle.reply_reader.proofs.reader.read_content.Tie as tie
 
 module _ (d : tie.After-read-data) where
   abbrev start : tie.Start

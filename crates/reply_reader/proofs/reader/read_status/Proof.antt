@@ -10,12 +10,13 @@ use lib.Dec.{eqb}
 use lib.ListN.{length}
 use Rattle.text.specs.Whole.{isDigit, digitsOnto, readWhole, digitCount, digitValue}
 use Rattle.text.proofs.Decimals.{whole-below}
 use Rattle.replies.specs.declared.reply.Outcome.the-variants as outcome
-use Rattle.replies.specs.declared.reply.Carried.the-variants as carried
-use Rattle.replies.specs.Reply.{doneText, readStatus}
+use Rattle.reply_reader.specs.declared.reader.Carried.the-variants as carried
+use Rattle.replies.specs.Reply.{doneText}
+use Rattle.reply_reader.specs.Reader.{readStatus}
 use Rattle.names.proofs.Names.{same-is}
-use Rattle.replies.proofs.reply.read_status.Statement.{statement}
-use Rattle.replies.proofs.reply.read_status.Tie as tie
+use Rattle.reply_reader.proofs.reader.read_status.Statement.{statement}
+use Rattle.reply_reader.proofs.reader.read_status.Tie as tie
 
 -- two bytes are a number where both are digits
 whole-is : (s : List ℕ) → length s ≡ 2 → readWhole s ≡ cond (eqb (digitCount 4 s) 2) (some (digitValue 4 0 s)) none

@@ -1,7 +1,7 @@
 use mathlib.Core.Path.{_≡_, sym, _∙_}
 use borrow.Author.Needs.{needs}
-use Rattle.replies.proofs.reply.held_in.Statement.{statement}
-use Rattle.replies.proofs.reply.held_in.Tie as tie
+use Rattle.reply_reader.proofs.reader.held_in.Statement.{statement}
+use Rattle.reply_reader.proofs.reader.held_in.Tie as tie
 
 returns : tie.Need-returns
 returns c = rw (sym (c .before .before .in-ranges .ensures) ∙ c .before .if1 .taken, ← c .data-of .ensures)

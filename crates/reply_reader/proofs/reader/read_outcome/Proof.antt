@@ -1,6 +1,6 @@
 use borrow.Author.Needs.{needs}
-use Rattle.replies.proofs.reply.read_outcome.Statement.{statement}
-use Rattle.replies.proofs.reply.read_outcome.Tie as tie
+use Rattle.reply_reader.proofs.reader.read_outcome.Statement.{statement}
+use Rattle.reply_reader.proofs.reader.read_outcome.Tie as tie
 
 read-status-requires : tie.Need-read-status-requires
 read-status-requires c κs = search needs

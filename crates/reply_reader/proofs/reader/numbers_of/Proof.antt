@@ -1,7 +1,7 @@
 use borrow.Author.Needs.{needs}
 use Rattle.text.proofs.Signed.{i32-back}
-use Rattle.replies.proofs.reply.numbers_of.Statement.{statement}
-use Rattle.replies.proofs.reply.numbers_of.Tie as tie
+use Rattle.reply_reader.proofs.reader.numbers_of.Statement.{statement}
+use Rattle.reply_reader.proofs.reader.numbers_of.Tie as tie
 
 enum-told : tie.Need-enum-told
 enum-told c = search needs

@@ -11,11 +11,12 @@ use lib.Seq.{take-all}
 use Rattle.text.specs.Whole.{readWhole, digitsOnto}
 use Rattle.names.proofs.Names.{same-is}
 use Rattle.commands.specs.declared.table.Form.{Form}
-use Rattle.replies.specs.declared.reply.Carried.the-variants as carried
+use Rattle.reply_reader.specs.declared.reader.Carried.the-variants as carried
 use Rattle.replies.specs.declared.reply.Outcome.the-variants as outcome
-use Rattle.replies.specs.Reply.{unknownText, readStatus, readLoadOutcome}
-use Rattle.replies.proofs.reply.read_load_outcome.Statement.{statement}
-use Rattle.replies.proofs.reply.read_load_outcome.Tie as tie
+use Rattle.replies.specs.Reply.{unknownText}
+use Rattle.reply_reader.specs.Reader.{readStatus, readLoadOutcome}
+use Rattle.reply_reader.proofs.reader.read_load_outcome.Statement.{statement}
+use Rattle.reply_reader.proofs.reader.read_load_outcome.Tie as tie
 
 -- "E09" is the status 9
 unknown : (f : Form) (asked : ℕ) → readLoadOutcome f asked unknownText ≡ carried.Outcome (outcome.Status 9)
