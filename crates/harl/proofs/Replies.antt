@@ -33,13 +33,14 @@ use Rattle.numbers.proofs.Texts.{shortest-solid, numbers-skips, numbers-length}
 use Rattle.data.specs.Ranges.{inRanges}
 use Rattle.data.specs.Data.{dataText}
 use Rattle.replies.specs.declared.reply.Content.{Content}
-use Rattle.replies.specs.Reply.{contentOf, numberFits, judgeOutcome, statusText, numberPart, contentText, outcomeText}
+use Rattle.replies.specs.Reply.{contentOf, statusText, numberPart, contentText}
+use Rattle.reply_writer.specs.Writer.{numberFits, judgeOutcome, outcomeText}
 use Rattle.reply_reader.specs.Reader.{dataOf, asStatus, readStatus, readContent, readLoadOutcome, readOutcome}
 use Rattle.harl.specs.Message.{ruleFor, judgeAsked, judgeReply, readReply, writeReply}
 use Rattle.harl.specs.Back.{RepliesReadBack}
 use Rattle.harl.proofs.Laws.{check-passed, fitting}
 use Rattle.data.proofs.Texts.{data-clean, kept, data-back}
-use Rattle.replies.proofs.Texts.{outcome-length}
+use Rattle.reply_writer.proofs.Texts.{outcome-length}
 use Rattle.harl.proofs.Requests.{judged-ok, asked-ok}
 
 -- ---- a status

@@ -25,7 +25,7 @@ use Rattle.bodies.specs.Body.{Judged}
 use Rattle.bodies.specs.Body as judged
 use Rattle.bodies.specs.Body.{readBody, bodyText}
 use Rattle.bodies.specs.Position.{bodyPosition}
-use Rattle.replies.specs.Reply.{judgeOutcome, outcomeText}
+use Rattle.reply_writer.specs.Writer.{judgeOutcome, outcomeText}
 use Rattle.reply_reader.specs.Reader.{readOutcome}
 
 -- the rule of a request's command

@@ -1,11 +1,9 @@
-// What a reply carries, judged, and the body of a reply written.
+// What a reply carries, and the body of a reply to a request that was performed or refused.
 use commands::request::Payload;
 use commands::request::Row;
 use commands::table::Form;
 use commands::table::Kind;
-use commands::table::Rule;
 use data::data::put_data;
-use data::ranges::in_ranges;
 use steps::step::Step;
 use text::put::Cursor;
 use text::put::put_byte;
@@ -17,7 +15,7 @@ ghost use Prim.Native.Nat.{_≤_, _+_};
 ghost use lib.ListN.{length};
 ghost use Rattle.text.specs.Put.{Put};
 ghost use Rattle.commands.specs.Request.{one};
-ghost use Rattle.replies.specs.Reply.{numbersContent, contentOf, kindCode, codeOf, numberFits, judgeOutcome, statusText, numberPart, contentText, numberIn, performedText, outcomeText, refusalText};
+ghost use Rattle.replies.specs.Reply.{numbersContent, contentOf, statusText, numberPart, contentText, numberIn, performedText, refusalText};
 
 // The status of an SN that was done.
 pub const DONE: [u8; 2] = *b"00";
@@ -72,7 +70,8 @@ fn single(kind: Kind, v: i32) -> Content
     )
 }
 
-fn content_of(held: Data) -> Content
+// The form of data, and what they are.
+pub fn content_of(held: Data) -> Content
     ensures { λ r. ⌜ r ≡ contentOf held ⌝ }
 {
     match held {
@@ -86,71 +85,6 @@ fn content_of(held: Data) -> Content
             form: Form::Texts,
             payload: Payload::Texts(step),
         },
-    }
-}
-
-fn kind_code(kind: Kind) -> u8
-    ensures { λ r. ⌜ r ≡ kindCode kind ⌝ }
-{
-    match kind {
-        Kind::Timer => 0,
-        Kind::Register => 1,
-        Kind::Row => 2,
-        Kind::Signal => 3,
-        Kind::Port => 4,
-    }
-}
-
-// A number for each form, by which two are compared.
-fn code_of(form: Form) -> u8
-    ensures { λ r. ⌜ r ≡ codeOf form ⌝ }
-{
-    match form {
-        Form::Numbers(kind) => kind_code(kind),
-        Form::Texts => 5,
-    }
-}
-
-// Whether data of a form may have the number n where another is asked for: numbers may.
-fn number_fits(form: Form, asked: u16, n: u16) -> bool
-    ensures { λ r. ⌜ r ≡ numberFits form asked n ⌝ }
-{
-    match form {
-        Form::Numbers(_) => true,
-        Form::Texts => n == asked,
-    }
-}
-
-// Check 12 of what a reply carries, for the command and the number that it answers; 0 where it passes.
-pub fn judge_outcome(rule: Rule, asked: u16, outcome: Outcome) -> u8
-    ensures { λ r. ⌜ r ≡ judgeOutcome rule asked outcome ⌝ }
-{
-    match outcome {
-        Outcome::Data(held) => {
-            if rule.store {
-                return 12;
-            }
-            let content = content_of(held);
-            let form = rule.form;
-            let payload = content.payload;
-            let found = content.form;
-            if code_of(found) != code_of(form) {
-                return 12;
-            }
-            if !number_fits(form, asked, content.number) {
-                return 12;
-            }
-            if in_ranges(form, payload) {
-                return 0;
-            }
-            12
-        }
-        Outcome::Status(n) => {
-            if 99 < n {
-                return 12;
-            }
-            0
-        }
     }
 }
 
@@ -204,17 +138,6 @@ pub fn put_held(area: &mut [u8], to: Cursor, held: Data) -> Cursor
     let payload = content.payload;
     let from = put_number(area, to, form, content.number);
     put_data(area, from, form, payload)
-}
-
-// Writes what a reply to an SN (`store`) or to an LN carries.
-pub fn put_outcome(area: &mut [u8], to: Cursor, store: bool, outcome: Outcome) -> Cursor
-    requires { ⌜ to .at + length (outcomeText store outcome) ≤ length (now area) ⌝ }
-    ensures { λ r. ⌜ Put (now (area .entry)) to (outcomeText store outcome) r (now (area .exit)) ⌝ }
-{
-    match outcome {
-        Outcome::Data(held) => put_held(area, to, held),
-        Outcome::Status(n) => put_status(area, to, store, n),
-    }
 }
 
 // The refusal number of a request that was performed: a status is its own, and data have 0.

@@ -1,6 +1,6 @@
 use borrow.Author.Needs.{needs}
-use Rattle.replies.proofs.reply.number_fits.Statement.{statement}
-use Rattle.replies.proofs.reply.number_fits.Tie as tie
+use Rattle.reply_writer.proofs.writer.number_fits.Statement.{statement}
+use Rattle.reply_writer.proofs.writer.number_fits.Tie as tie
 
 pub number-fits-spec : {M : Type 1} → statement M
 number-fits-spec =

@@ -1,7 +1,7 @@
 use borrow.Author.Needs.{needs}
-use Rattle.replies.specs.Reply.{outcomeText}
-use Rattle.replies.proofs.reply.put_outcome.Statement.{statement}
-use Rattle.replies.proofs.reply.put_outcome.Tie as tie
+use Rattle.reply_writer.specs.Writer.{outcomeText}
+use Rattle.reply_writer.proofs.writer.put_outcome.Statement.{statement}
+use Rattle.reply_writer.proofs.writer.put_outcome.Tie as tie
 
 enum-known-outcome : tie.Need-enum-known-outcome
 enum-known-outcome c = search needs

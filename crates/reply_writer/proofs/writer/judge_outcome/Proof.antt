@@ -6,9 +6,9 @@ use borrow.Author.Needs.{needs}
 use borrow.Author.Tests.{lt-ltb, le-ltb, eq-eqb, ne-eqb, not-true, not-false}
 use lib.Dec.{eqb}
 use Rattle.data.specs.Ranges.{inRanges}
-use Rattle.replies.specs.Reply.{numberFits, contentFits, judgeOutcome}
-use Rattle.replies.proofs.reply.judge_outcome.Statement.{statement}
-use Rattle.replies.proofs.reply.judge_outcome.Tie as tie
+use Rattle.reply_writer.specs.Writer.{numberFits, contentFits, judgeOutcome}
+use Rattle.reply_writer.proofs.writer.judge_outcome.Statement.{statement}
+use Rattle.reply_writer.proofs.writer.judge_outcome.Tie as tie
 
 judged :
     (c : tie.After-code-of2) →
