@@ -24,7 +24,8 @@ use Rattle.replies.specs.declared.reply.Outcome.the-variants as outcome
 use Rattle.data.specs.Ranges.{inRanges}
 use Rattle.bodies.specs.Body.{readBody}
 use Rattle.bodies.specs.Position.{bodyPosition, judgedAt, verdictWith, judgedWith}
-use Rattle.replies.specs.Reply.{contentOf, codeOf, numberFits, contentFits, judgeOutcome}
+use Rattle.replies.specs.Reply.{contentOf}
+use Rattle.reply_writer.specs.Writer.{codeOf, numberFits, contentFits, judgeOutcome}
 use Rattle.harl.specs.declared.message.Sent.{Sent}
 use Rattle.harl.specs.Message.{unsent, Wrote}
 

@@ -22,7 +22,8 @@ use Rattle.bodies.specs.Body.{bodyText}
 use Rattle.replies.specs.declared.reply.Data.{Data}
 use Rattle.replies.specs.declared.reply.Outcome.{Outcome}
 use Rattle.replies.specs.declared.reply.Outcome.the-variants as outcome
-use Rattle.replies.specs.Reply.{contentOf, numberFits, judgeOutcome, numberPart, contentText, outcomeText}
+use Rattle.replies.specs.Reply.{contentOf, numberPart, contentText}
+use Rattle.reply_writer.specs.Writer.{numberFits, judgeOutcome, outcomeText}
 use Rattle.harl.specs.Message.{ruleFor, judgeRequest, judgeAsked, writeRequest, judgeReply, writeReply}
 use Rattle.harl.specs.Length.{RequestsShort, RepliesShort}
 use Rattle.data.proofs.Bounds.{passed}

@@ -11,13 +11,13 @@ use Rattle.frame.proofs.Placed.{passed, frame-number, body-place, which-stray}
 use Rattle.commands.specs.declared.request.Request.{Request}
 use Rattle.commands.specs.Request.{partsOf}
 use Rattle.numbers.proofs.Where.{false-true}
-use Rattle.replies.specs.declared.reply.Carried.{Carried}
-use Rattle.replies.specs.declared.reply.Carried.the-variants as carried
+use Rattle.reply_reader.specs.declared.reader.Carried.{Carried}
+use Rattle.reply_reader.specs.declared.reader.Carried.the-variants as carried
 use Rattle.bodies.specs.Body.{Judged}
 use Rattle.bodies.specs.Body as judged
 use Rattle.bodies.specs.Body.{readBody}
 use Rattle.bodies.specs.Position.{bodyPosition}
-use Rattle.replies.specs.Reply.{readOutcome}
+use Rattle.reply_reader.specs.Reader.{readOutcome}
 use Rattle.bodies.proofs.Position.{Numbered, body-number, body-pointed}
 use Rattle.harl.specs.Message.{ruleFor, judgeAsked, RequestReading, noRequest, fromStation, readRequest, ReplyReading, noOutcome, fromCarried, readReply}
 use Rattle.harl.specs.Place.{tells, Told, FramesTold, RequestsTold, RepliesTold}

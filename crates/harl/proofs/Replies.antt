@@ -27,18 +27,20 @@ use Rattle.replies.specs.declared.reply.Data.{Data}
 use Rattle.replies.specs.declared.reply.Data.the-variants as held
 use Rattle.replies.specs.declared.reply.Outcome.{Outcome}
 use Rattle.replies.specs.declared.reply.Outcome.the-variants as outcome
-use Rattle.replies.specs.declared.reply.Carried.the-variants as carried
+use Rattle.reply_reader.specs.declared.reader.Carried.the-variants as carried
 use Rattle.numbers.specs.Numbers.{numbersText}
 use Rattle.numbers.proofs.Texts.{shortest-solid, numbers-skips, numbers-length}
 use Rattle.data.specs.Ranges.{inRanges}
 use Rattle.data.specs.Data.{dataText}
 use Rattle.replies.specs.declared.reply.Content.{Content}
-use Rattle.replies.specs.Reply.{contentOf, dataOf, numberFits, judgeOutcome, statusText, numberPart, contentText, outcomeText, asStatus, readStatus, readContent, readLoadOutcome, readOutcome}
+use Rattle.replies.specs.Reply.{contentOf, statusText, numberPart, contentText}
+use Rattle.reply_writer.specs.Writer.{numberFits, judgeOutcome, outcomeText}
+use Rattle.reply_reader.specs.Reader.{dataOf, asStatus, readStatus, readContent, readLoadOutcome, readOutcome}
 use Rattle.harl.specs.Message.{ruleFor, judgeAsked, judgeReply, readReply, writeReply}
 use Rattle.harl.specs.Back.{RepliesReadBack}
 use Rattle.harl.proofs.Laws.{check-passed, fitting}
 use Rattle.data.proofs.Texts.{data-clean, kept, data-back}
-use Rattle.replies.proofs.Texts.{outcome-length}
+use Rattle.reply_writer.proofs.Texts.{outcome-length}
 use Rattle.harl.proofs.Requests.{judged-ok, asked-ok}
 
 -- ---- a status

@@ -11,8 +11,8 @@ use Rattle.frame.specs.Frame.{Reading, readFrame, framePosition, frameOf}
 use Rattle.commands.specs.declared.table.Rule.{Rule}
 use Rattle.commands.specs.declared.request.Request.{Request}
 use Rattle.replies.specs.declared.reply.Outcome.{Outcome}
-use Rattle.replies.specs.declared.reply.Carried.{Carried}
-use Rattle.replies.specs.declared.reply.Carried.the-variants as carried
+use Rattle.reply_reader.specs.declared.reader.Carried.{Carried}
+use Rattle.reply_reader.specs.declared.reader.Carried.the-variants as carried
 use Rattle.harl.specs.declared.message.Asked.{Asked}
 use Rattle.harl.specs.declared.message.Asked.the-variants as asked
 use Rattle.harl.specs.declared.message.Answered.{Answered}
@@ -25,7 +25,8 @@ use Rattle.bodies.specs.Body.{Judged}
 use Rattle.bodies.specs.Body as judged
 use Rattle.bodies.specs.Body.{readBody, bodyText}
 use Rattle.bodies.specs.Position.{bodyPosition}
-use Rattle.replies.specs.Reply.{judgeOutcome, outcomeText, readOutcome}
+use Rattle.reply_writer.specs.Writer.{judgeOutcome, outcomeText}
+use Rattle.reply_reader.specs.Reader.{readOutcome}
 
 -- the rule of a request's command
 abbrev pub ruleFor : Request → Rule

@@ -24,7 +24,8 @@ use Rattle.replies.specs.declared.reply.Data.the-variants as held
 use Rattle.replies.specs.declared.reply.Outcome.{Outcome}
 use Rattle.replies.specs.declared.reply.Outcome.the-variants as outcome
 use Rattle.data.specs.Ranges.{inRanges}
-use Rattle.replies.specs.Reply.{contentOf, judgeOutcome, statusText, stepOutcome, numberIn, performedText, outcomeText}
+use Rattle.replies.specs.Reply.{contentOf, statusText, stepOutcome, numberIn, performedText}
+use Rattle.reply_writer.specs.Writer.{judgeOutcome, outcomeText}
 use Rattle.harl.specs.Message.{ruleFor, writeRequest}
 use Rattle.programs.specs.Memory.{size, program}
 use Rattle.model.specs.Call.{Call, serve}

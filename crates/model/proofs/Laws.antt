@@ -29,7 +29,8 @@ use Rattle.replies.specs.declared.reply.Outcome.the-variants as outcome
 use Rattle.numbers.specs.Ranges.{limitsOf, inRange, eachInRange, allInRange}
 use Rattle.data.specs.Ranges.{judge}
 use Rattle.bodies.specs.Body.{readBody}
-use Rattle.replies.specs.Reply.{contentOf, codeOf, contentFits, judgeOutcome, outcomeText}
+use Rattle.replies.specs.Reply.{contentOf}
+use Rattle.reply_writer.specs.Writer.{codeOf, contentFits, judgeOutcome, outcomeText}
 use Rattle.harl.specs.Message.{ruleFor, judgeAsked, theRequest, noRequest, fromStation, requestIn, readRequest, writeRequest, judgeReply, writeReply, theOutcome, readReply}
 use Rattle.numbers.proofs.Bounds.{in-nat, head-in, tail-in, all-x, one-in}
 use Rattle.data.proofs.Bounds.{passed}

@@ -14,7 +14,8 @@ use Rattle.data.specs.Ranges.{judge}
 use Rattle.numbers.specs.Numbers.{numbersText}
 use Rattle.bodies.specs.Body.{readShape, requestOrRefusal, readBody}
 use Rattle.bodies.specs.Position.{bodyPosition}
-use Rattle.replies.specs.Reply.{statusText, outcomeText}
+use Rattle.replies.specs.Reply.{statusText}
+use Rattle.reply_writer.specs.Writer.{outcomeText}
 use Rattle.tables.specs.Tables.{loaded, stored, zeros}
 use Rattle.model.specs.Setup.{tooHigh, contains, repeats, setupNumber, setupRefusal}
 use Rattle.model.specs.Box.{setup, scan, slotOf, isFitted, hasRoom, decide, perform, respond, after, answer}

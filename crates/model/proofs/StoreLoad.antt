@@ -33,7 +33,8 @@ use Rattle.data.specs.Ranges.{judge}
 use Rattle.bodies.specs.Body.{readBody}
 use Rattle.replies.specs.declared.reply.Outcome.{Outcome}
 use Rattle.replies.specs.declared.reply.Outcome.the-variants as outcome
-use Rattle.replies.specs.Reply.{numbersOf, stepOutcome}
+use Rattle.replies.specs.Reply.{stepOutcome}
+use Rattle.reply_reader.specs.Reader.{numbersOf}
 use Rattle.steps.specs.declared.step.Step.{Step}
 use Rattle.steps.specs.Step.{isStep, textsOf}
 use Rattle.steps.proofs.Back.{texts-back}

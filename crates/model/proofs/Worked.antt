@@ -15,7 +15,8 @@ use Rattle.numbers.specs.Ranges.{inRange, eachInRange, allInRange}
 use Rattle.data.specs.Ranges.{judge}
 use Rattle.numbers.specs.Numbers.{numbersText}
 use Rattle.bodies.specs.Body.{readShape, requestOrRefusal, readBody, bodyText}
-use Rattle.replies.specs.Reply.{contentFits, judgeOutcome, statusText, outcomeText}
+use Rattle.replies.specs.Reply.{statusText}
+use Rattle.reply_writer.specs.Writer.{contentFits, judgeOutcome, outcomeText}
 use Rattle.harl.specs.Message.{judgeAsked, writeRequest, judgeReply, writeReply}
 use Rattle.tables.specs.Tables.{loaded, stored, zeros}
 use Rattle.model.specs.Setup.{tooHigh, contains, repeats, setupNumber, setupRefusal}

@@ -6,10 +6,9 @@ use native.Mathlib.Omega.{arith}
 use lib.Dec.{eqb}
 use lib.ListN.{length, length-append}
 use Rattle.text.specs.Whole.{digit, shortest}
-use Rattle.text.proofs.Digits.{shortest-some, shortest-short}
+use Rattle.text.proofs.Digits.{shortest-short}
 use Rattle.commands.specs.declared.table.Form.{Form}
 use Rattle.commands.specs.declared.table.Form.the-variants.{Numbers, Texts}
-use Rattle.commands.specs.declared.request.Payload.{Payload}
 use Rattle.commands.specs.Request.{rowIn}
 use Rattle.numbers.proofs.Texts.{numbers-length}
 use Rattle.data.specs.Data.{dataText}
@@ -17,7 +16,7 @@ use Rattle.data.proofs.Texts.{most-bytes, data-length}
 use Rattle.replies.specs.declared.reply.Outcome.{Outcome}
 use Rattle.replies.specs.declared.reply.Outcome.the-variants as outcome
 use Rattle.replies.specs.declared.reply.Content.{Content}
-use Rattle.replies.specs.Reply.{contentOf, unknownText, statusText, refusalText, numberPart, contentText, performedText, outcomeText}
+use Rattle.replies.specs.Reply.{contentOf, unknownText, statusText, refusalText, numberPart, contentText, performedText}
 
 pub status-length : (t : Bool) (n : ℕ) → (1 ≤ length (statusText t n)) × (length (statusText t n) ≤ 3)
 unfolding statusText digit
@@ -44,13 +43,6 @@ content-length c =
     some-byte : (f : Form) → 1 ≤ length (numberPart f (c .number)) + length (dataText f (c .payload))
     some-byte (Numbers k) = omega (arith, numbers-length k (rowIn (c .payload)) .0)
     some-byte Texts = omega (arith, length-append (shortest (c .number)) (32 ∷ []))
-
-pub outcome-length : (store : Bool) (o : Outcome) → (1 ≤ length (outcomeText store o)) × (length (outcomeText store o) ≤ 56)
-unfolding outcomeText
-outcome-length store (outcome.Data d) = content-length (contentOf d)
-outcome-length store (outcome.Status n) =
-    let l = status-length store n in
-    (l .0, omega arith)
 
 pub performed-length : (o : Outcome) → (1 ≤ length (performedText o)) × (length (performedText o) ≤ 56)
 performed-length (outcome.Data d) = content-length (contentOf d)

@@ -1,31 +1,23 @@
 -- The body of a reply (document 01, "The tables and replies"; for steps document 02, E3).
 use Prim.Native.Nat.{ℕ}
-use mathlib.Core.Bool.{Bool, true, false, cond, _&&_}
+use mathlib.Core.Bool.{Bool, true, false, cond}
 use mathlib.Core.List.{List, [], _∷_, _++_}
-use mathlib.Core.Option.{Option, none, some}
-use lib.Dec.{ltb, eqb}
-use lib.ListN.{length, getD, drop}
-use Rattle.text.specs.Whole.{readWhole, shortest, twoDigits}
-use Rattle.frame.specs.Fields.{fields, readsAs}
+use lib.Dec.{eqb}
+use Rattle.text.specs.Whole.{shortest, twoDigits}
 use Rattle.steps.specs.Step.{typedOf}
 use Rattle.commands.specs.declared.table.Kind.{Kind}
 use Rattle.commands.specs.declared.table.Kind.the-variants as kind
 use Rattle.commands.specs.declared.table.Form.{Form}
 use Rattle.commands.specs.declared.table.Form.the-variants.{Numbers, Texts}
-use Rattle.commands.specs.declared.table.Rule.{Rule}
 use Rattle.commands.specs.declared.request.Row.{Row}
-use Rattle.commands.specs.declared.request.Payload.{Payload}
 use Rattle.commands.specs.declared.request.Payload.the-variants as payload
 use Rattle.replies.specs.declared.reply.Data.{Data}
 use Rattle.replies.specs.declared.reply.Data.the-variants as held
 use Rattle.replies.specs.declared.reply.Outcome.{Outcome}
 use Rattle.replies.specs.declared.reply.Outcome.the-variants as outcome
-use Rattle.replies.specs.declared.reply.Carried.{Carried}
-use Rattle.replies.specs.declared.reply.Carried.the-variants as carried
 use Rattle.replies.specs.declared.reply.Content.{Content}
-use Rattle.commands.specs.Request.{one, rowIn, stepIn}
-use Rattle.data.specs.Ranges.{inRanges}
-use Rattle.data.specs.Data.{readData, dataText}
+use Rattle.commands.specs.Request.{one}
+use Rattle.data.specs.Data.{dataText}
 
 -- numbers reply no number of their own
 abbrev pub numbersContent : Kind → Row → Content
@@ -39,47 +31,6 @@ contentOf (held.Row r) = numbersContent kind.Row r
 contentOf (held.Signal v) = numbersContent kind.Signal (one v)
 contentOf (held.Port v) = numbersContent kind.Port (one v)
 contentOf (held.Step n s) = record { number = n; form = Texts; payload = payload.Texts s }
-
--- the data of a kind that numbers are
-abbrev pub numbersOf : Kind → Row → Data
-numbersOf kind.Timer r = held.Timer (r .x)
-numbersOf kind.Register r = held.Register (r .x)
-numbersOf kind.Row r = held.Row r
-numbersOf kind.Signal r = held.Signal (r .x)
-numbersOf kind.Port r = held.Port (r .x)
-
--- the data of a form that answer the request for number n
-abbrev pub dataOf : Form → ℕ → Payload → Data
-dataOf (Numbers k) n p = numbersOf k (rowIn p)
-dataOf Texts n p = held.Step n (stepIn p)
-
--- a number for each form
-abbrev pub kindCode : Kind → ℕ
-kindCode kind.Timer = 0
-kindCode kind.Register = 1
-kindCode kind.Row = 2
-kindCode kind.Signal = 3
-kindCode kind.Port = 4
-
-abbrev pub codeOf : Form → ℕ
-codeOf (Numbers k) = kindCode k
-codeOf Texts = 5
-
--- a step replies its number, which is the asked one
-abbrev pub numberFits : Form → ℕ → ℕ → Bool
-numberFits (Numbers k) asked n = true
-numberFits Texts asked n = eqb n asked
-
--- data answer an LN of their form, and are in range
-unfoldable pub contentFits : Rule → ℕ → Content → Bool
-contentFits rule asked c =
-    cond (rule .store) false
-    (eqb (codeOf (c .form)) (codeOf (rule .form)) && (numberFits (rule .form) asked (c .number) && inRanges (rule .form) (c .payload)))
-
--- 12 VALUE of what replies to a request for a number: data of another form or out of range, another step, a status above 99
-unfoldable pub judgeOutcome : Rule → ℕ → Outcome → ℕ
-judgeOutcome rule asked (outcome.Data d) = cond (contentFits rule asked (contentOf d)) 0 12
-judgeOutcome rule asked (outcome.Status n) = cond (ltb 99 n) 12 0
 
 -- ---- writing
 
@@ -122,37 +73,3 @@ numberIn (outcome.Status n) = n
 abbrev pub performedText : Outcome → List ℕ
 performedText (outcome.Data d) = contentText (contentOf d)
 performedText (outcome.Status n) = statusText (eqb n 0) n
-
--- the data or the status of a reply, to an SN or not
-unfoldable pub outcomeText : Bool → Outcome → List ℕ
-outcomeText store (outcome.Data d) = contentText (contentOf d)
-outcomeText store (outcome.Status n) = statusText store n
-
--- ---- reading
-
-abbrev pub asStatus : Option ℕ → Carried
-asStatus (some v) = carried.Outcome (outcome.Status v)
-asStatus none = carried.Nothing
-
--- any two digits
-unfoldable pub readStatus : List ℕ → Carried
-readStatus s = cond (eqb (length s) 2) (asStatus (readWhole s)) carried.Nothing
-
--- the fields of a reply as data: before the texts of a step stands the asked number
-abbrev pub readContent : Form → ℕ → List (List ℕ) → Option Payload
-readContent (Numbers k) asked fs = readData (Numbers k) fs
-readContent Texts asked [] = none
-readContent Texts asked (f ∷ fs) = cond (readsAs (λ n. eqb n asked) (readWhole f)) (readData Texts fs) none
-
--- data within the command's data range
-abbrev pub asData : Form → ℕ → Option Payload → Carried
-asData f asked (some p) = cond (inRanges f p) (carried.Outcome (outcome.Data (dataOf f asked p))) carried.Nothing
-asData f asked none = carried.Nothing
-
--- "E" and any two digits, or data
-unfoldable pub readLoadOutcome : Form → ℕ → List ℕ → Carried
-readLoadOutcome f asked s = cond (eqb (getD s 0 0) 69) (readStatus (drop 1 s)) (asData f asked (readContent f asked (fields s)))
-
--- what the body of a reply to a command carries, which was sent with a number
-abbrev pub readOutcome : Rule → ℕ → List ℕ → Carried
-readOutcome rule asked s = cond (rule .store) (readStatus s) (readLoadOutcome (rule .form) asked s)

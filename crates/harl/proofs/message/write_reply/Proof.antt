@@ -8,10 +8,10 @@ use lib.ListN.{length}
 use Rattle.text.proofs.Digits.{shortest-short}
 use Rattle.frame.specs.Frame.{frameOf}
 use Rattle.frame.proofs.Writing.{opening-length, framed}
-use Rattle.replies.specs.Reply.{judgeOutcome, outcomeText}
+use Rattle.reply_writer.specs.Writer.{judgeOutcome, outcomeText}
 use Rattle.harl.specs.Message.{judgeReply, writeReply}
 use Rattle.frame.proofs.Short.{frame-fits}
-use Rattle.replies.proofs.Texts.{outcome-length}
+use Rattle.reply_writer.proofs.Texts.{outcome-length}
 use Rattle.harl.proofs.Laws.{wrote-none, wrote-all}
 use Rattle.harl.proofs.message.write_reply.Statement.{statement}
 use Rattle.harl.proofs.message.write_reply.Tie as tie
