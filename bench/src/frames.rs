@@ -1,7 +1,9 @@
 //! Frames, calls and memory from a generator with a fixed seed.
 
+use std::rc::Rc;
+
 use crate::receiver::{Receiver, SLICE};
-use crate::reference::{lrc, Tables, PROGRAMS, TEXT};
+use crate::reference::{lrc, Port, Tables, A, B, PROGRAMS, TEXT};
 use crate::reference::{ABSENT, COMMAND, END, ETX, LENGTH, LRC, NUMBER, SHAPE, START, STATION, STRAY, STX, VALUE};
 
 /// The stations of the benchmark set.
@@ -72,6 +74,17 @@ impl Frames {
 
     pub fn bytes(&self) -> usize {
         self.bytes.len()
+    }
+
+    pub fn count(&self) -> usize {
+        self.ends.len() - 1
+    }
+
+    /// The slices that can wait at a port: all but empty ones, which end where they begin.
+    pub fn filled(&self) -> Frames {
+        let mut ends = self.ends.clone();
+        ends.dedup();
+        Frames { bytes: self.bytes.clone(), ends }
     }
 
     /// The slices one after the other.
@@ -528,6 +541,24 @@ pub enum Call {
         slice: Vec<u8>,
         room: usize,
     },
+    /// Picks one of two ports, and serves its slice if there is a reply area, which has that length.
+    Pick {
+        buffers: [Buffer; 2],
+        room: Option<usize>,
+    },
+}
+
+/// A buffer of a port, and its waiting length. A clone is the same memory.
+#[derive(Clone)]
+pub struct Buffer {
+    bytes: Rc<[u8]>,
+    waiting: usize,
+}
+
+impl Buffer {
+    pub fn port(&self) -> Port<'_> {
+        Port { buffer: &self.bytes, waiting: self.waiting }
+    }
 }
 
 /// The greatest length of a reply area.
@@ -543,17 +574,65 @@ pub fn call(random: &mut Random, stations: &[u8; 4]) -> Call {
         input(random)
     } else if random.one_in(12) {
         Call::OutputsOn(slot(random))
+    } else if random.one_in(4) {
+        pick(random, stations)
     } else {
-        let slice = match random.one_in(3) {
-            true => served(random, stations, &STEPS),
-            false => served(random, stations, &COMMANDS),
-        };
-        let room = match random.one_in(20) {
-            true => random.pick(&[0, 1, 6, 32, 62, 63]),
-            false => random.pick(&[64, 64, 65, 100, 255, 256, GREATEST_ROOM]),
-        };
-        Call::Serve { slice, room }
+        Call::Serve { slice: slice(random, stations), room: room(random) }
     }
+}
+
+fn slice(random: &mut Random, stations: &[u8; 4]) -> Vec<u8> {
+    match random.one_in(3) {
+        true => served(random, stations, &STEPS),
+        false => served(random, stations, &COMMANDS),
+    }
+}
+
+fn room(random: &mut Random) -> usize {
+    match random.one_in(20) {
+        true => random.pick(&[0, 1, 6, 32, 62, 63]),
+        false => random.pick(&[64, 64, 65, 100, 255, 256, GREATEST_ROOM]),
+    }
+}
+
+/// At times both ports lend one buffer.
+fn pick(random: &mut Random, stations: &[u8; 4]) -> Call {
+    let first = buffer(random, stations);
+    let second = match random.one_in(8) {
+        true => first.clone(),
+        false => buffer(random, stations),
+    };
+    let room = match random.one_in(8) {
+        true => None,
+        false => Some(room(random)),
+    };
+    Call::Pick { buffers: [first, second], room }
+}
+
+/// A buffer that begins with a slice, at times with bytes behind it. Mostly the slice waits, else a part of it, nothing,
+/// or a length beyond the buffer, which may be that of the slice but for its upper bits.
+fn buffer(random: &mut Random, stations: &[u8; 4]) -> Buffer {
+    let mut bytes = slice(random, stations);
+    let length = bytes.len();
+    if random.one_in(3) {
+        plain(random, 1, 20, &mut bytes);
+    }
+    let beyond = bytes.len() + 1;
+    let waiting = match random.below(12) {
+        0 | 1 => 0,
+        2 => random.below(beyond),
+        3 => beyond,
+        4 => random.pick(&[beyond + 1, length + 256, length + (1 << 16), length + (1 << 32), 1 << 63, usize::MAX]),
+        _ => length,
+    };
+    Buffer { bytes: bytes.into(), waiting }
+}
+
+/// A turn to go on with: mostly the one before, else one that a call leaves, the next behind those, or any.
+pub fn turn(random: &mut Random, before: u8) -> u8 {
+    let any = random.byte();
+    let other = random.pick(&[0, A, B, B + 1, any, any]);
+    random.pick(&[before, before, before, other])
 }
 
 fn wanted(random: &mut Random) -> [u16; 4] {
@@ -598,10 +677,10 @@ pub fn lent(random: &mut Random, often: usize) -> usize {
     }
 }
 
-/// Memory that no call leaves: one slot is unfitted, and the ports, the numbers of outputs on and the START programs are
-/// any, these with few or many characters.
+/// Memory that no call leaves: one slot is unfitted, and the ports, the numbers of outputs on, the turn and the START
+/// programs are any, these with few or many characters.
 pub fn other_memory(random: &mut Random) -> Tables {
-    let mut tables = Tables { stations: STATIONS, ..Tables::new() };
+    let mut tables = Tables { stations: STATIONS, turn: random.byte(), ..Tables::new() };
     tables.stations[random.below(4)] = 0;
     random.fill(tables.inputs.as_flattened_mut());
     random.fill(tables.outputs.as_flattened_mut());
@@ -873,5 +952,8 @@ mod tests {
         }
         assert_eq!(frames.iter().count(), FRAMES);
         assert_eq!(refused, FRAMES / 10);
+        let filled = frames.filled();
+        assert!(filled.iter().eq(frames.iter().filter(|slice| !slice.is_empty())));
+        assert_eq!(filled.iter().count(), filled.count());
     }
 }

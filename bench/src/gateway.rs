@@ -1,7 +1,7 @@
 //! The entries of libllamput.a, as include/llamput.h declares them.
 
 use crate::receiver::{Received, Receiver};
-use crate::reference::{Count, Sent, Tables};
+use crate::reference::{Choice, Count, Next, Port, Sent, Tables};
 
 #[repr(C)]
 struct LlamputSent {
@@ -23,6 +23,19 @@ struct LlamputReceived {
     length: usize,
 }
 
+#[repr(C)]
+struct LlamputChoice {
+    number: u8,
+    port: u8,
+    length: usize,
+}
+
+#[repr(C)]
+struct LlamputNext {
+    port: u8,
+    sent: LlamputSent,
+}
+
 extern "C" {
     fn llamput_setup(
         timers: *mut [u16; 16],
@@ -38,6 +51,7 @@ extern "C" {
         programs: *mut u8,
         programs_length: usize,
         stations: *mut u8,
+        turn: *mut u8,
         want: *const u16,
     ) -> u8;
 
@@ -88,10 +102,46 @@ extern "C" {
         area: *mut u8,
         area_length: usize,
     ) -> LlamputReceived;
+
+    fn llamput_choose(
+        turn: *mut u8,
+        a: *const u8,
+        a_length: usize,
+        waiting_a: usize,
+        b: *const u8,
+        b_length: usize,
+        waiting_b: usize,
+    ) -> LlamputChoice;
+
+    fn llamput_serve_next(
+        timers: *mut [u16; 16],
+        registers: *mut [u16; 64],
+        x: *mut [i32; 100],
+        y: *mut [i32; 100],
+        z: *mut [i32; 100],
+        w: *mut [i32; 100],
+        inputs: *mut [u8; 32],
+        outputs: *mut [u8; 32],
+        memory: *mut [u8; 16],
+        on: *mut u16,
+        programs: *mut u8,
+        programs_length: usize,
+        stations: *const u8,
+        turn: *mut u8,
+        a: *const u8,
+        a_length: usize,
+        waiting_a: usize,
+        b: *const u8,
+        b_length: usize,
+        waiting_b: usize,
+        reply: *mut u8,
+        reply_length: usize,
+    ) -> LlamputNext;
 }
 
 // In each call the areas are fields of one exclusively borrowed struct, or what such a field owns, or borrowed apart from
-// it, so none overlap, and each has the length that the header declares or that is given.
+// it, so none overlap but the buffers of two ports, which may, and each has the length that the header declares or that
+// is given.
 
 pub fn setup(tables: &mut Tables, want: &[u16; 4]) -> u8 {
     unsafe {
@@ -109,6 +159,7 @@ pub fn setup(tables: &mut Tables, want: &[u16; 4]) -> u8 {
             tables.programs.as_mut_ptr(),
             tables.programs.len(),
             tables.stations.as_mut_ptr(),
+            &mut tables.turn,
             want.as_ptr(),
         )
     }
@@ -181,4 +232,42 @@ pub fn receive(receiver: &mut Receiver, arrived: &[u8], area: &mut [u8]) -> Rece
         )
     };
     Received { number, taken, length }
+}
+
+pub fn choose(turn: &mut u8, a: Port, b: Port) -> Choice {
+    let LlamputChoice { number, port, length } = unsafe {
+        llamput_choose(turn, a.buffer.as_ptr(), a.buffer.len(), a.waiting, b.buffer.as_ptr(), b.buffer.len(), b.waiting)
+    };
+    Choice { number, port, length }
+}
+
+#[inline]
+pub fn serve_next(tables: &mut Tables, a: Port, b: Port, reply: &mut [u8]) -> Next {
+    let LlamputNext { port, sent: LlamputSent { number, length, position } } = unsafe {
+        llamput_serve_next(
+            tables.timers.as_mut_ptr(),
+            tables.registers.as_mut_ptr(),
+            tables.x.as_mut_ptr(),
+            tables.y.as_mut_ptr(),
+            tables.z.as_mut_ptr(),
+            tables.w.as_mut_ptr(),
+            tables.inputs.as_mut_ptr(),
+            tables.outputs.as_mut_ptr(),
+            tables.memory.as_mut_ptr(),
+            tables.on.as_mut_ptr(),
+            tables.programs.as_mut_ptr(),
+            tables.programs.len(),
+            tables.stations.as_ptr(),
+            &mut tables.turn,
+            a.buffer.as_ptr(),
+            a.buffer.len(),
+            a.waiting,
+            b.buffer.as_ptr(),
+            b.buffer.len(),
+            b.waiting,
+            reply.as_mut_ptr(),
+            reply.len(),
+        )
+    };
+    Next { port, sent: Sent { number, length, position } }
 }

@@ -8,7 +8,7 @@ use crate::frames::{self, Frames, Random, GREATEST_ROOM};
 use crate::gateway;
 use crate::receiver::{self, Received, Receiver, SLICE};
 use crate::reference::{ETX, ROOM, STX};
-use crate::{hex, summary};
+use crate::{hex, in_turn, summary};
 
 /// How many lines are compared, each from other memory.
 const LINES: usize = 16_000;
@@ -249,14 +249,9 @@ pub fn time(frames: &Frames, slices: usize, rounds: usize) {
     let reference_round = || receiving_round(line, receiver::receive);
     let (mut gateway, mut reference, mut copying) = (Vec::new(), Vec::new(), Vec::new());
     for index in 0..rounds {
-        // The order within a pair alternates.
-        if index % 2 == 0 {
-            gateway.push(gateway_round());
-            reference.push(reference_round());
-        } else {
-            reference.push(reference_round());
-            gateway.push(gateway_round());
-        }
+        let times = in_turn(index, gateway_round, reference_round);
+        gateway.push(times.0);
+        reference.push(times.1);
         copying.push(copying_round(line));
     }
     let (gateway, reference, copying) = (summary(gateway), summary(reference), summary(copying));

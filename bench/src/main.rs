@@ -1,6 +1,7 @@
-//! Compares the library llamput with a bytewise server: every answer on 100,000 frames and on a million further calls,
-//! the numbers of outputs on and the START programs from other memory too, and every call of a receiver on 16,000
-//! lines; then the time of serving those frames, and of receiving them one after the other.
+//! Compares the library llamput with a bytewise server: every answer on 100,000 frames, from one port and from two, and
+//! on a million further calls, the numbers of outputs on, the START programs and the turn from other memory too, and
+//! every call of a receiver on 16,000 lines; then the time of serving those frames, from one port and from two, and of
+//! receiving them one after the other.
 //!
 //! The optional argument is the number of timed rounds.
 
@@ -8,6 +9,7 @@ mod frames;
 mod gateway;
 mod kinds;
 mod line;
+mod picks;
 mod receiver;
 mod reference;
 
@@ -16,9 +18,10 @@ use std::hint::black_box;
 use std::process::ExitCode;
 use std::time::Instant;
 
-use frames::{Call, Frames, Random, FRAMES, GREATEST_ROOM, STATIONS};
+use frames::{Buffer, Call, Frames, Random, FRAMES, GREATEST_ROOM, STATIONS};
 use kinds::{KINDS, OUTCOMES};
-use reference::{lrc, ones, Count, Sent, Tables, EMPTY, INPUT, REPLY_ROOM};
+use picks::{Pick, PICKS};
+use reference::{lrc, ones, Choice, Count, Next, Port, Sent, Tables, EMPTY, IDLE, INPUT, REPLY_ROOM};
 
 const CALLS: usize = 1_000_000;
 /// How often the comparison begins with other memory.
@@ -26,20 +29,27 @@ const STARTS: usize = 100;
 const ROUNDS: usize = 301;
 
 /// How many numbers there are, with 0.
-const NUMBERS: usize = 17;
+const NUMBERS: usize = 18;
 
-/// How often each number was returned, to any call and to those that ask for the outputs on, each kind of position, and
-/// each outcome of LNA and SNA.
+/// How often each number was returned, to any call and to those that ask for the outputs on, each kind of position,
+/// each outcome of LNA and SNA, and each kind of pick.
 struct Counts {
     numbers: [usize; NUMBERS],
     asked: [usize; NUMBERS],
     kinds: [usize; KINDS],
     outcomes: [usize; OUTCOMES.len()],
+    picks: [usize; PICKS.len()],
 }
 
 impl Counts {
     fn new() -> Counts {
-        Counts { numbers: [0; NUMBERS], asked: [0; NUMBERS], kinds: [0; KINDS], outcomes: [0; OUTCOMES.len()] }
+        Counts {
+            numbers: [0; NUMBERS],
+            asked: [0; NUMBERS],
+            kinds: [0; KINDS],
+            outcomes: [0; OUTCOMES.len()],
+            picks: [0; PICKS.len()],
+        }
     }
 
     fn returned(&mut self, number: u8) {
@@ -61,6 +71,19 @@ impl Counts {
         }
     }
 
+    fn picked(&mut self, pick: &Pick) {
+        for (count, (_, test)) in self.picks.iter_mut().zip(PICKS) {
+            *count += usize::from(test(pick));
+        }
+    }
+
+    fn every_pick(&self) -> Result<(), String> {
+        match PICKS.iter().zip(self.picks).find(|(_, count)| *count == 0) {
+            Some(((name, _), _)) => Err(format!("no call reaches the pick {name}")),
+            None => Ok(()),
+        }
+    }
+
     fn every_outcome(&self) -> Result<(), String> {
         match OUTCOMES.iter().zip(self.outcomes).find(|(_, count)| *count == 0) {
             Some((outcome, _)) => Err(format!("no call reaches {outcome}")),
@@ -73,6 +96,34 @@ impl Counts {
 struct Wraps {
     above: bool,
     below: bool,
+}
+
+/// Reply areas of that length for both sides, each at the start of a larger one, and the bytes of these before a call.
+struct Areas {
+    before: [u8; GREATEST_ROOM],
+    gateway: [u8; GREATEST_ROOM],
+    reference: [u8; GREATEST_ROOM],
+    room: usize,
+}
+
+impl Areas {
+    fn new(room: usize, random: &mut Random) -> Areas {
+        let mut before = [0; GREATEST_ROOM];
+        random.fill(&mut before);
+        Areas { before, gateway: before, reference: before, room }
+    }
+
+    fn gateway(&mut self) -> &mut [u8] {
+        &mut self.gateway[..self.room]
+    }
+
+    fn reference(&mut self) -> &mut [u8] {
+        &mut self.reference[..self.room]
+    }
+
+    fn untouched(&self, sent: Sent, area: &[u8; GREATEST_ROOM]) -> bool {
+        sent.length <= self.room && area[sent.length..] == self.before[sent.length..]
+    }
 }
 
 /// The tables of both sides.
@@ -89,6 +140,16 @@ struct Pair {
 impl Pair {
     fn new() -> Pair {
         Pair { gateway: Tables::new(), reference: Tables::new(), is_box: true, area: [0; GREATEST_ROOM] }
+    }
+
+    /// The box that serves the frames.
+    fn fitted() -> Result<Pair, String> {
+        let mut pair = Pair::new();
+        pair.setup(&STATIONS.map(u16::from))?;
+        for (slot, port, byte) in inputs() {
+            pair.input(slot, port, byte)?;
+        }
+        Ok(pair)
     }
 
     fn other(memory: Tables) -> Pair {
@@ -113,6 +174,12 @@ impl Pair {
         self.gateway.programs.clone_from(&before);
         self.reference.programs = before;
         made
+    }
+
+    /// Makes it the turn, as a caller that writes its memory does.
+    fn overwrite_turn(&mut self, turn: u8) {
+        self.gateway.turn = turn;
+        self.reference.turn = turn;
     }
 
     fn agree(&mut self) -> Result<(), String> {
@@ -180,6 +247,7 @@ impl Pair {
             ("memory", gateway.memory == reference.memory),
             ("on", gateway.on == reference.on),
             ("programs", gateway.programs == reference.programs),
+            ("turn", gateway.turn == reference.turn),
         ];
         same.iter().find(|(_, same)| !same).map_or("stations", |(name, _)| name)
     }
@@ -224,33 +292,99 @@ impl Pair {
         Ok(count)
     }
 
-    /// Serves the slice on both sides with a reply area of that length at the start of a larger one.
+    /// Serves the slice on both sides with a reply area of that length.
     fn serve(&mut self, slice: &[u8], room: usize, random: &mut Random) -> Result<Sent, String> {
-        let mut before = [0; GREATEST_ROOM];
-        random.fill(&mut before);
-        let (mut left, mut right) = (before, before);
-        let gateway = gateway::serve(&mut self.gateway, slice, &mut left[..room]);
-        let reference = reference::serve(&mut self.reference, slice, &mut right[..room]);
+        let mut areas = Areas::new(room, random);
+        let gateway = gateway::serve(&mut self.gateway, slice, areas.gateway());
+        let reference = reference::serve(&mut self.reference, slice, areas.reference());
+        self.sent(areas, gateway, reference).map_err(|text| format!("slice {}, {text}", hex(slice)))?;
+        Ok(reference)
+    }
+
+    /// Compares what serving returned and left on both sides.
+    fn sent(&mut self, areas: Areas, gateway: Sent, reference: Sent) -> Result<(), String> {
         let context = || {
             format!(
-                "slice {}, reply area {room}:\n  gateway   {}\n  reference {}",
-                hex(slice),
-                answer(gateway, &left),
-                answer(reference, &right)
+                "reply area {}:\n  gateway   {}\n  reference {}",
+                areas.room,
+                answer(gateway, &areas.gateway),
+                answer(reference, &areas.reference)
             )
         };
-        let untouched = |sent: Sent, area: &[u8; GREATEST_ROOM]| {
-            sent.length <= room && area[sent.length..] == before[sent.length..]
-        };
-        if gateway != reference || left != right {
+        if gateway != reference || areas.gateway != areas.reference {
             return Err(context());
         }
-        if !untouched(gateway, &left) || !untouched(reference, &right) {
+        if !areas.untouched(gateway, &areas.gateway) || !areas.untouched(reference, &areas.reference) {
             return Err(format!("{}\n  bytes past the length were changed", context()));
         }
         self.agree().map_err(|text| format!("{}\n  {text}", context()))?;
-        self.area = right;
+        self.area = areas.reference;
+        Ok(())
+    }
+
+    /// Picks on both sides.
+    fn choose(&mut self, ports: [Port; 2]) -> Result<Choice, String> {
+        let ([a, b], turn) = (ports, self.reference.turn);
+        let gateway = gateway::choose(&mut self.gateway.turn, a, b);
+        let reference = reference::choose(&mut self.reference.turn, a, b);
+        let context = || format!("{}: gateway {gateway:?}, reference {reference:?}", lent(ports, turn));
+        if gateway != reference {
+            return Err(context());
+        }
+        self.agree().map_err(|text| format!("{}: {text}", context()))?;
         Ok(reference)
+    }
+
+    /// Picks and serves on both sides with a reply area of that length.
+    fn serve_next(&mut self, ports: [Port; 2], room: usize, random: &mut Random) -> Result<Next, String> {
+        let ([a, b], turn) = (ports, self.reference.turn);
+        let mut areas = Areas::new(room, random);
+        let gateway = gateway::serve_next(&mut self.gateway, a, b, areas.gateway());
+        let reference = reference::serve_next(&mut self.reference, a, b, areas.reference());
+        let context = || format!("{}: gateway {gateway:?}, reference {reference:?}", lent(ports, turn));
+        if gateway.port != reference.port {
+            return Err(context());
+        }
+        self.sent(areas, gateway.sent, reference.sent).map_err(|text| format!("{}, {text}", context()))?;
+        Ok(reference)
+    }
+
+    /// Picks from these buffers, and at times lends a wrong memory for the START programs.
+    fn pick_from(
+        &mut self,
+        buffers: &[Buffer; 2],
+        room: Option<usize>,
+        random: &mut Random,
+        counts: &mut Counts,
+    ) -> Result<(), String> {
+        let ports = buffers.each_ref().map(Buffer::port);
+        let length = frames::lent(random, 100);
+        self.lend_once(length, |pair| pair.pick(ports, room, random, counts))
+    }
+
+    /// Picks on both sides, serves if there is a reply area, and counts.
+    fn pick(
+        &mut self,
+        ports: [Port; 2],
+        room: Option<usize>,
+        random: &mut Random,
+        counts: &mut Counts,
+    ) -> Result<(), String> {
+        let turn = self.reference.turn;
+        let Some(room) = room else {
+            let Choice { number, port, .. } = self.choose(ports)?;
+            counts.returned(number);
+            counts.picked(&Pick { turn, ports, room, port, number });
+            return Ok(());
+        };
+        let Next { port, sent } = self.serve_next(ports, room, random)?;
+        let pick = Pick { turn, ports, room: Some(room), port, number: sent.number };
+        match pick.slice() {
+            Some(slice) => counts.served(slice, sent, &self.area),
+            None => counts.returned(sent.number),
+        }
+        counts.picked(&pick);
+        Ok(())
     }
 }
 
@@ -264,6 +398,11 @@ fn answer(sent: Sent, area: &[u8]) -> String {
     format!("number {number}, position {position}, length {length}, reply {}", hex(reply))
 }
 
+fn lent([a, b]: [Port; 2], turn: u8) -> String {
+    let [a, b] = [a, b].map(|port| format!("{}, of which {} wait", hex(port.buffer), port.waiting));
+    format!("A {a}, B {b}, turn {turn}")
+}
+
 /// Each slot and input port, with the byte that it holds before the frames are served.
 fn inputs() -> impl Iterator<Item = (usize, u16, u8)> {
     (0..4).flat_map(|slot| (0..32).map(move |port| (slot, port, (slot * 67 + usize::from(port) * 29) as u8)))
@@ -272,12 +411,8 @@ fn inputs() -> impl Iterator<Item = (usize, u16, u8)> {
 /// Serves the frames on both sides and compares.
 fn compare_frames(frames: &Frames) -> Result<Counts, String> {
     let mut random = Random::new(1);
-    let mut pair = Pair::new();
+    let mut pair = Pair::fitted()?;
     let mut counts = Counts::new();
-    pair.setup(&STATIONS.map(u16::from))?;
-    for (slot, port, byte) in inputs() {
-        pair.input(slot, port, byte)?;
-    }
     for (index, slice) in frames.iter().enumerate() {
         let sent = pair.serve(slice, REPLY_ROOM, &mut random).map_err(|text| format!("frame {index}: {text}"))?;
         counts.served(slice, sent, &pair.area);
@@ -310,11 +445,13 @@ fn compare_calls() -> Result<Counts, String> {
                 let sent = pair.lend_once(length, |pair| pair.serve(&slice, room, &mut random));
                 sent.map(|sent| counts.served(&slice, sent, &pair.area))
             }
+            Call::Pick { buffers, room } => pair.pick_from(&buffers, room, &mut random, &mut counts),
         };
         made.map_err(|text| format!("call {index}: {text}"))?;
     }
     // No call gives 15, which is for readers of replies.
-    if let Some(number) = (0..=14).chain([usize::from(EMPTY)]).find(|&number| counts.numbers[number] == 0) {
+    let mut given = (0..=14).chain([EMPTY, IDLE].map(usize::from));
+    if let Some(number) = given.find(|&number| counts.numbers[number] == 0) {
         return Err(format!("no call reaches refusal {number}"));
     }
     if let Some(number) = [0, INPUT].into_iter().find(|&number| counts.asked[usize::from(number)] == 0) {
@@ -324,6 +461,7 @@ fn compare_calls() -> Result<Counts, String> {
         return Err(format!("no call reaches the position {name}"));
     }
     counts.every_outcome()?;
+    counts.every_pick()?;
     Ok(counts)
 }
 
@@ -353,7 +491,7 @@ fn compare_every_number() -> Result<(), String> {
     Ok(())
 }
 
-/// Makes calls from memory that no call leaves, each time up to a setup.
+/// Makes calls from memory that no call leaves, each time up to a setup. The turn is overwritten time and again.
 fn compare_other_memory() -> Result<Counts, String> {
     let mut random = Random::new(4);
     let mut counts = Counts::new();
@@ -361,6 +499,7 @@ fn compare_other_memory() -> Result<Counts, String> {
     for start in 0..STARTS {
         let mut pair = Pair::other(frames::other_memory(&mut random));
         while !pair.is_box {
+            pair.overwrite_turn(frames::turn(&mut random, pair.reference.turn));
             let before = pair.gateway.clone();
             let made = match frames::call(&mut random, &before.stations) {
                 Call::Setup(want) => pair.setup(&want).map(|_| ()),
@@ -370,12 +509,13 @@ fn compare_other_memory() -> Result<Counts, String> {
                 Call::Serve { slice, room } => {
                     pair.serve(&slice, room, &mut random).map(|sent| counts.served(&slice, sent, &pair.area))
                 }
+                Call::Pick { buffers, room } => pair.pick_from(&buffers, room, &mut random, &mut counts),
             };
             made.and_then(|()| pair.moved_numbers(&before, &mut wraps))
                 .map_err(|text| format!("other memory, start {start}: {text}"))?;
         }
     }
-    counts.every_outcome().map_err(|text| format!("other memory: {text}"))?;
+    counts.every_outcome().and_then(|()| counts.every_pick()).map_err(|text| format!("other memory: {text}"))?;
     match wraps {
         Wraps { above: true, below: true } => Ok(counts),
         _ => Err("from other memory no number goes above 65535, or none below 0".to_string()),
@@ -422,32 +562,53 @@ fn floor_round(frames: &Frames) -> f64 {
     })
 }
 
+/// The times of a round of the gateway and of one of the reference, whose order alternates.
+fn in_turn(index: usize, gateway: impl FnOnce() -> f64, reference: impl FnOnce() -> f64) -> (f64, f64) {
+    if index % 2 == 0 {
+        let gateway = gateway();
+        (gateway, reference())
+    } else {
+        let reference = reference();
+        (gateway(), reference)
+    }
+}
+
 /// The least and the median.
 fn summary(mut times: Vec<f64>) -> (f64, f64) {
     times.sort_by(f64::total_cmp);
     (times[0], times[times.len() / 2])
 }
 
-fn time(frames: &Frames, rounds: usize) {
+/// Takes the time of serving the frames, and of serving those that are filled from two ports.
+fn time(frames: &Frames, filled: &Frames, rounds: usize) -> Result<(), String> {
     let (mut gateway, mut reference, mut floor) = (Vec::new(), Vec::new(), Vec::new());
     for index in 0..rounds {
-        // The order within a pair alternates.
-        if index % 2 == 0 {
-            gateway.push(gateway_round(frames));
-            reference.push(reference_round(frames));
-        } else {
-            reference.push(reference_round(frames));
-            gateway.push(gateway_round(frames));
-        }
+        let times = in_turn(index, || gateway_round(frames), || reference_round(frames));
+        gateway.push(times.0);
+        reference.push(times.1);
         floor.push(floor_round(frames));
     }
     let (gateway, reference, floor) = (summary(gateway), summary(reference), summary(floor));
+    let [gateway_picks, reference_picks] = picks::time(filled, rounds)?;
     println!("{rounds} rounds of {FRAMES} frames, {} bytes", frames.bytes());
+    println!("from two ports {} frames, all but the empty ones, which cannot wait", filled.count());
     println!("{:<35}{:>10}{:>10}", "ns a frame", "least", "median");
-    for (name, (least, median)) in [("gateway", gateway), ("reference", reference), ("floor", floor)] {
+    let times = [
+        ("gateway", gateway),
+        ("reference", reference),
+        ("floor", floor),
+        ("gateway, two ports", gateway_picks),
+        ("reference, two ports", reference_picks),
+    ];
+    for (name, (least, median)) in times {
         println!("{name:<35}{least:>10.1}{median:>10.1}");
     }
-    println!("{:<35}{:>10.3}{:>10.3}", "gateway/reference", gateway.0 / reference.0, gateway.1 / reference.1);
+    let quotients =
+        [("gateway/reference", gateway, reference), ("gateway/reference, two ports", gateway_picks, reference_picks)];
+    for (name, gateway, reference) in quotients {
+        println!("{name:<35}{:>10.3}{:>10.3}", gateway.0 / reference.0, gateway.1 / reference.1);
+    }
+    Ok(())
 }
 
 fn run(rounds: usize) -> Result<(), String> {
@@ -456,6 +617,9 @@ fn run(rounds: usize) -> Result<(), String> {
     let stream = compare_calls()?;
     compare_every_number()?;
     let other = compare_other_memory()?;
+    picks::compare_every_turn()?;
+    let filled = frames.filled();
+    picks::compare_frames(&filled)?;
     let receiving = line::compare_lines()?;
     let slices = line::compare_frames(&frames)?;
     println!("{:<35}{:>10}{:>10}", "number", "frames", "calls");
@@ -468,6 +632,10 @@ fn run(rounds: usize) -> Result<(), String> {
     }
     let [answered, refused] = [0, INPUT].map(|number| stream.asked[usize::from(number)]);
     println!("{answered} of the calls ask for the outputs on and get 0, {refused} get 14");
+    println!("{:<35}{:>10}{:>14}", "pick of one of two ports", "calls", "other memory");
+    for ((name, _), (stream, other)) in PICKS.iter().zip(stream.picks.iter().zip(&other.picks)) {
+        println!("{name:<35}{stream:>10}{other:>14}");
+    }
     println!("{:<35}{:>10}{:>10}{:>14}", "LNA and SNA at an arm", "frames", "calls", "other memory");
     for (index, outcome) in OUTCOMES.iter().enumerate() {
         let [set, stream, other] = [&set, &stream, &other].map(|counts| counts.outcomes[index]);
@@ -477,7 +645,7 @@ fn run(rounds: usize) -> Result<(), String> {
     println!("{:<35}{set:>10}{stream:>10}{other:>14}", "all");
     receiving.print();
     println!("gateway and reference agree on {FRAMES} frames and {CALLS} calls\n");
-    time(&frames, rounds);
+    time(&frames, &filled, rounds)?;
     line::time(&frames, slices, rounds);
     Ok(())
 }

@@ -1,5 +1,6 @@
-//! A bytewise server of the base commands as requests E2, E6, E7 and E9 leave them, and of LNA and SNA of E3, written from
-//! documents 01 and 02 alone, but for the layout of the memory of START programs, which is that of docs/MEMORY.md.
+//! A bytewise server of the base commands as requests E2, E6, E7 and E9 leave them, of LNA and SNA of E3, and of the
+//! two ports of E5, written from documents 01 and 02 alone, but for the layout of the memory of START programs, which is
+//! that of docs/MEMORY.md, and for the values of the turn, which are those of include/llamput.h.
 
 use std::mem;
 
@@ -18,9 +19,14 @@ pub const VALUE: u8 = 12;
 pub const SETUP: u8 = 13;
 pub const INPUT: u8 = 14;
 pub const EMPTY: u8 = 16;
+pub const IDLE: u8 = 17;
 
 pub const STX: u8 = 0x02;
 pub const ETX: u8 = 0x03;
+
+/// The two ports, as a pick and the turn name them.
+pub const A: u8 = 1;
+pub const B: u8 = 2;
 
 /// The least length of a reply area.
 pub const REPLY_ROOM: usize = 64;
@@ -54,6 +60,8 @@ pub struct Tables {
     /// The START programs, in a memory of any length.
     pub programs: Vec<u8>,
     pub stations: [u8; 4],
+    /// The port that was served last; a value other than A and B means neither.
+    pub turn: u8,
 }
 
 impl Tables {
@@ -71,6 +79,7 @@ impl Tables {
             on: [0; 4],
             programs: vec![0; PROGRAMS],
             stations: [0; 4],
+            turn: 0,
         }
     }
 }
@@ -89,6 +98,41 @@ pub struct Sent {
 pub struct Count {
     pub number: u8,
     pub count: u16,
+}
+
+/// What one of the two ports lends: a buffer, and how many bytes of it wait.
+#[derive(Clone, Copy)]
+pub struct Port<'a> {
+    pub buffer: &'a [u8],
+    pub waiting: usize,
+}
+
+impl<'a> Port<'a> {
+    /// A port where all of the buffer waits.
+    pub fn full(buffer: &'a [u8]) -> Port<'a> {
+        Port { buffer, waiting: buffer.len() }
+    }
+
+    /// The slice that waits: none for a length of 0 or beyond the buffer.
+    pub fn slice(self) -> Option<&'a [u8]> {
+        self.buffer.get(..self.waiting).filter(|slice| !slice.is_empty())
+    }
+}
+
+/// What choosing returns: the refusal number, or 0, and the port that is picked and the length of its slice, each 0 for
+/// none.
+#[derive(Clone, Copy, Debug, PartialEq, Eq)]
+pub struct Choice {
+    pub number: u8,
+    pub port: u8,
+    pub length: usize,
+}
+
+/// What serving the next slice returns: the port that was served, 0 for none, and what serving returned.
+#[derive(Clone, Copy, Debug, PartialEq, Eq)]
+pub struct Next {
+    pub port: u8,
+    pub sent: Sent,
 }
 
 /// Sets up a new box. Returns 0, or ROOM or SETUP; then no slot is fitted, and the START programs are as they were.
@@ -160,6 +204,30 @@ pub fn serve(tables: &mut Tables, slice: &[u8], area: &mut [u8]) -> Sent {
     };
     reply.end();
     Sent { number, length: reply.length, position }
+}
+
+/// Picks the port that is served next and makes it the turn, or refuses with IDLE; then the turn stays.
+pub fn choose(turn: &mut u8, a: Port, b: Port) -> Choice {
+    let (port, slice) = match (a.slice(), b.slice()) {
+        (Some(_), Some(slice)) if *turn == A => (B, slice),
+        (Some(slice), _) => (A, slice),
+        (None, Some(slice)) => (B, slice),
+        (None, None) => return Choice { number: IDLE, port: 0, length: 0 },
+    };
+    *turn = port;
+    Choice { number: 0, port, length: slice.len() }
+}
+
+/// Serves the slice of the port that is picked. A slice that is refused has used the turn.
+#[inline(never)]
+pub fn serve_next(tables: &mut Tables, a: Port, b: Port, area: &mut [u8]) -> Next {
+    let Choice { number, port, length } = choose(&mut tables.turn, a, b);
+    let sent = match port {
+        A => serve(tables, &a.buffer[..length], area),
+        B => serve(tables, &b.buffer[..length], area),
+        _ => Sent { number, length: 0, position: 0 },
+    };
+    Next { port, sent }
 }
 
 fn silent(number: u8, slice: &[u8]) -> Sent {
@@ -694,6 +762,14 @@ mod tests {
     use crate::frames::frame;
     use std::fs;
     use std::path::Path;
+    use std::str::FromStr;
+
+    /// A box with stations 1 to 4.
+    fn new_box() -> Tables {
+        let mut tables = Tables::new();
+        assert_eq!(setup(&mut tables, &[1, 2, 3, 4]), 0);
+        tables
+    }
 
     /// What the program `cell` reads from one line: the slice, or none where the line is no call.
     fn slice_of(line: &[u8]) -> Option<Vec<u8>> {
@@ -710,8 +786,7 @@ mod tests {
 
     /// The answers of the program `cell` to its input, each with the position if it was a call.
     fn cell(input: &[u8]) -> Vec<(String, Option<usize>)> {
-        let mut tables = Tables::new();
-        assert_eq!(setup(&mut tables, &[1, 2, 3, 4]), 0);
+        let mut tables = new_box();
         let mut lines: Vec<&[u8]> = input.split(|&byte| byte == b'\n').collect();
         // What follows the last line feed counts if it is not empty.
         if lines.last().is_some_and(|line| line.is_empty()) {
@@ -766,6 +841,250 @@ mod tests {
         };
         let answers: Vec<String> = cell(&input).into_iter().map(with_position).collect();
         assert_lines(&answers, &expected);
+    }
+
+    fn decimal<T: FromStr>(word: &str) -> T {
+        word.parse().ok().expect(word)
+    }
+
+    /// A buffer in hexadecimal, "-" for an empty one.
+    fn buffer(word: &str) -> Vec<u8> {
+        match word {
+            "-" => Vec::new(),
+            _ => slice_of(word.as_bytes()).expect(word),
+        }
+    }
+
+    fn port<'a>(buffer: &'a [u8], waiting: &str) -> Port<'a> {
+        Port { buffer, waiting: decimal(waiting) }
+    }
+
+    fn name(port: u8) -> &'static str {
+        match port {
+            A => "A",
+            B => "B",
+            _ => "-",
+        }
+    }
+
+    /// Each byte behind a space.
+    fn spaced(bytes: &[u8]) -> String {
+        bytes.iter().map(|byte| format!(" {byte:02X}")).collect()
+    }
+
+    /// The answer of the program `picks` to one command, but for the turn behind it.
+    fn answered(tables: &mut Tables, line: &str) -> String {
+        let words: Vec<&str> = line.split(' ').collect();
+        match words[..] {
+            ["next", a, waiting_a, b, waiting_b, room] => {
+                let (a, b) = (buffer(a), buffer(b));
+                let mut area = vec![0xAA; decimal(room)];
+                let Next { port, sent } = serve_next(tables, port(&a, waiting_a), port(&b, waiting_b), &mut area);
+                let reply = match sent.length {
+                    0 => ", no reply".to_string(),
+                    length => spaced(&area[..length]),
+                };
+                let untouched = area.iter().rev().take_while(|&&byte| byte == 0xAA).count();
+                format!("{}: {:02}{reply}, {untouched} untouched @{}", name(port), sent.number, sent.position)
+            }
+            ["choose", a, waiting_a, b, waiting_b] => {
+                let (a, b) = (buffer(a), buffer(b));
+                let choice = choose(&mut tables.turn, port(&a, waiting_a), port(&b, waiting_b));
+                let picked = if choice.port == B { b } else { a };
+                format!("{}: {:02}{}", name(choice.port), choice.number, spaced(&picked[..choice.length]))
+            }
+            ["turn", turn] => {
+                tables.turn = decimal(turn);
+                "set".to_string()
+            }
+            ["setup", first, second, third, fourth] => {
+                format!("setup: {:02}", setup(tables, &[first, second, third, fourth].map(decimal)))
+            }
+            ["input", slot, port, byte] => {
+                format!("input: {:02}", input(tables, decimal(slot), decimal(port), decimal(byte)))
+            }
+            ["count", slot] => {
+                let Count { number, count } = outputs_on(tables, decimal(slot));
+                format!("count: {number:02} {count}")
+            }
+            _ => panic!("no command: {line}"),
+        }
+    }
+
+    #[test]
+    fn stored_picks() {
+        let (input, expected) = stored("picks");
+        let mut tables = new_box();
+        let answer = |line: &str| format!("{} turn {}", answered(&mut tables, line), tables.turn);
+        let answers: Vec<String> = String::from_utf8(input).expect("picks").lines().map(answer).collect();
+        assert_lines(&answers, &expected);
+    }
+
+    /// What waits at the two ports in the tests below.
+    const FOR_A: &[u8] = b"\x021 LNT 5\x03\x51";
+    const FOR_B: &[u8] = b"\x022 SND 63 0042\x03\x4B";
+
+    /// Picks with these waiting lengths. Returns the port and the number.
+    fn pick_within(tables: &mut Tables, waiting_a: usize, waiting_b: usize, room: usize) -> (u8, u8) {
+        let (a, b) = (Port { buffer: FOR_A, waiting: waiting_a }, Port { buffer: FOR_B, waiting: waiting_b });
+        let (mut expected, mut replied, mut area) = (tables.clone(), [0xAA; REPLY_ROOM], [0xAA; REPLY_ROOM]);
+        let Choice { number, port, length } = choose(&mut expected.turn, a, b);
+        let sent = match port {
+            A => serve(&mut expected, &FOR_A[..length], &mut replied[..room]),
+            B => serve(&mut expected, &FOR_B[..length], &mut replied[..room]),
+            _ => Sent { number, length: 0, position: 0 },
+        };
+        assert_eq!(serve_next(tables, a, b, &mut area[..room]), Next { port, sent });
+        assert!(*tables == expected && area == replied);
+        assert_eq!(length, [0, waiting_a, waiting_b][usize::from(port)]);
+        (port, sent.number)
+    }
+
+    fn pick(tables: &mut Tables, waiting_a: usize, waiting_b: usize) -> (u8, u8) {
+        pick_within(tables, waiting_a, waiting_b, REPLY_ROOM)
+    }
+
+    fn pick_both(tables: &mut Tables) -> (u8, u8) {
+        pick(tables, FOR_A.len(), FOR_B.len())
+    }
+
+    #[test]
+    fn both_wait() {
+        let mut tables = new_box();
+        for _ in 0..5 {
+            assert_eq!(pick_both(&mut tables), (A, 0));
+            assert_eq!(pick_both(&mut tables), (B, 0));
+        }
+        assert_eq!(tables.registers[1][63], 42);
+    }
+
+    #[test]
+    fn one_waits() {
+        let mut tables = new_box();
+        for _ in 0..3 {
+            assert_eq!(pick(&mut tables, 0, FOR_B.len()), (B, 0));
+        }
+        assert_eq!(pick_both(&mut tables), (A, 0));
+        for _ in 0..3 {
+            assert_eq!(pick(&mut tables, FOR_A.len(), 0), (A, 0));
+        }
+        assert_eq!(pick_both(&mut tables), (B, 0));
+    }
+
+    #[test]
+    fn waiting_lengths() {
+        let (all_a, all_b) = (FOR_A.len(), FOR_B.len());
+        for beyond in [1, 2, 256, 1 << 32, usize::MAX - all_b] {
+            let mut tables = new_box();
+            assert_eq!(pick(&mut tables, all_a + beyond, all_b), (B, 0));
+            assert_eq!(pick(&mut tables, all_a, all_b + beyond), (A, 0));
+            assert_eq!(pick(&mut tables, all_a + beyond, all_b + beyond), (0, IDLE));
+            assert_eq!(pick(&mut tables, all_a + beyond, 0), (0, IDLE));
+            assert_eq!(pick(&mut tables, 0, all_b + beyond), (0, IDLE));
+        }
+        let mut tables = new_box();
+        assert_eq!(pick(&mut tables, 1, 1), (A, LENGTH));
+        assert_eq!(pick(&mut tables, all_a - 1, all_b - 1), (B, END));
+        assert_eq!(pick(&mut tables, all_a, all_b), (A, 0));
+    }
+
+    /// The waiting slice is the start of its buffer, and what stands behind it is no part of it.
+    #[test]
+    fn longer_buffers() {
+        let mut tables = new_box();
+        let buffer = [FOR_A, FOR_B].concat();
+        let (a, b) = (Port { buffer: &buffer, waiting: FOR_A.len() }, Port::full(&buffer[FOR_A.len()..]));
+        for (port, length) in [(A, FOR_A.len()), (B, FOR_B.len())] {
+            assert_eq!(choose(&mut tables.turn.clone(), a, b), Choice { number: 0, port, length });
+            let next = serve_next(&mut tables, a, b, &mut [0; REPLY_ROOM]);
+            assert_eq!((next.port, next.sent.number), (port, 0));
+        }
+    }
+
+    #[test]
+    fn idle_uses_no_turn() {
+        for turn in 0..=255 {
+            let mut tables = Tables { turn, ..new_box() };
+            assert_eq!(pick(&mut tables, 0, 0), (0, IDLE));
+            assert!(tables == Tables { turn, ..new_box() });
+        }
+        let mut tables = new_box();
+        for picked in [A, B, A, B] {
+            assert_eq!(pick_both(&mut tables), (picked, 0));
+            assert_eq!(pick(&mut tables, 0, 0), (0, IDLE));
+        }
+    }
+
+    /// A slice that is refused has used the turn, and with nothing waiting no other check is made.
+    #[test]
+    fn idle_before_room() {
+        for room in [0, 1, REPLY_ROOM - 1] {
+            let mut tables = new_box();
+            assert_eq!(pick_within(&mut tables, 0, 0, room), (0, IDLE));
+            assert_eq!(tables.turn, 0);
+            for port in [A, B, A] {
+                assert_eq!(pick_within(&mut tables, FOR_A.len(), FOR_B.len(), room), (port, ROOM));
+                assert_eq!(tables.turn, port);
+            }
+        }
+        let mut tables = new_box();
+        tables.programs.pop();
+        assert_eq!(pick(&mut tables, 0, 0), (0, IDLE));
+        assert_eq!(pick_both(&mut tables), (A, ROOM));
+        assert_eq!(pick_both(&mut tables), (B, ROOM));
+    }
+
+    #[test]
+    fn every_turn() {
+        for turn in 0..=255 {
+            let pick = |waiting_a, waiting_b| {
+                let mut tables = Tables { turn, ..new_box() };
+                let (port, number) = pick(&mut tables, waiting_a, waiting_b);
+                assert_eq!((number, tables.turn), (0, port));
+                port
+            };
+            assert_eq!(pick(FOR_A.len(), FOR_B.len()), if turn == A { B } else { A });
+            assert_eq!(pick(FOR_A.len(), 0), A);
+            assert_eq!(pick(0, FOR_B.len()), B);
+        }
+    }
+
+    /// All lists of six picks with either port waiting or not: one that waits at two picks in a row is served by one of
+    /// them.
+    #[test]
+    fn at_most_one_service_of_the_other() {
+        let waits = |list: usize, port: u8| list >> (port - 1) & 1 == 1;
+        for (turn, list) in [0, A, B, 3, 255].into_iter().flat_map(|turn| (0..1 << 12).map(move |list| (turn, list))) {
+            let (mut turn, mut last) = (turn, None);
+            for list in (0..6).map(|index| list >> (2 * index)) {
+                let [a, b] = [A, B].map(|port| Port::full(if waits(list, port) { b"x" } else { b"" }));
+                let picked = choose(&mut turn, a, b).port;
+                assert_eq!(picked == 0, a.waiting == 0 && b.waiting == 0);
+                for port in [A, B].into_iter().filter(|&port| waits(list, port)) {
+                    let waited = last.is_some_and(|(before, picked)| waits(before, port) && picked != port);
+                    assert!(picked == port || !waited);
+                }
+                last = Some((list, picked));
+            }
+        }
+    }
+
+    #[test]
+    fn setup_and_turn() {
+        for (want, length, number) in
+            [([1, 2, 3, 4], PROGRAMS, 0), ([1, 2, 3, 100], PROGRAMS, SETUP), ([1, 2, 3, 4], PROGRAMS - 1, ROOM)]
+        {
+            for turn in 0..=255 {
+                let mut tables = Tables { turn, programs: vec![0; length], ..Tables::new() };
+                assert_eq!((setup(&mut tables, &want), tables.turn), (number, 0));
+            }
+            let mut tables = new_box();
+            assert_eq!(pick_both(&mut tables), (A, 0));
+            tables.programs.truncate(length);
+            assert_eq!(setup(&mut tables, &want), number);
+            // A box without an arm takes A too.
+            assert_eq!(pick_both(&mut tables).0, A);
+        }
     }
 
     /// The refusal number and the position for a text within a frame, at a box with stations 1 and 42.
@@ -853,8 +1172,7 @@ mod tests {
 
     #[test]
     fn no_position() {
-        let mut tables = Tables::new();
-        assert_eq!(setup(&mut tables, &[1, 2, 3, 4]), 0);
+        let mut tables = new_box();
         let mut area = [0; REPLY_ROOM];
         let slice = b"\x021 LNT 5\x03\x51";
         for (slice, room, number) in [

@@ -16,6 +16,7 @@ use replies::reply::put_refusal;
 use steps::step::step_of;
 use tables::perform::perform;
 ghost use mathlib.Core.Path.{_≡_};
+ghost use mathlib.Core.Bool.{true};
 ghost use Prim.Native.Nat.{_≤_, _<_};
 ghost use lib.ListN.{length};
 ghost use Rattle.text.specs.Put.{PutAt};
@@ -27,7 +28,7 @@ ghost use Rattle.programs.specs.Memory.{size};
 ghost use Rattle.tables.specs.Tables.{Tables, tables, Performed};
 ghost use Rattle.model.specs.Box.{box, hasRoom};
 ghost use Rattle.gateway.specs.Entries.{Served};
-ghost use Rattle.gateway.specs.Serving.{BodyServed, foundIn};
+ghost use Rattle.gateway.specs.Serving.{BodyServed, foundIn, sentOf};
 
 // Where a station is.
 pub enum Found {
@@ -63,7 +64,7 @@ fn find_slot(stations: &[u8; 4], station: u8) -> Found
 }
 
 // Check 1: whether the lent memory has its size, and the reply area room for a reply.
-fn has_room(programs: &[u8], reply: &[u8]) -> bool
+pub fn has_room(programs: &[u8], reply: &[u8]) -> bool
     ensures { λ r. ⌜ r ≡ hasRoom (length (now (programs .entry))) (length (now (reply .entry))) ⌝ }
 {
     if reply.len() < 64 {
@@ -203,9 +204,8 @@ fn serve_body(
     }
 }
 
-// Serves a slice: checks 1 to 12, in their order. With a reply, its bytes stand at the front of the reply
-// area; with none, the length is 0 and the area untouched. A refusal changes no table.
-pub fn serve(
+// Serves a slice that passed check 1: checks 2 to 12, in their order.
+fn serve_slice(
     timers: &mut [[u16; 16]; 4],
     registers: &mut [[u16; 64]; 4],
     x: &mut [[i32; 100]; 4],
@@ -221,11 +221,9 @@ pub fn serve(
     slice: &[u8],
     reply: &mut [u8],
 ) -> Sent
+    requires { ⌜ hasRoom (length (now programs)) (length (now reply)) ≡ true ⌝ }
     ensures { λ r. ⌜ Served (box (now (stations .entry)) (tables (now (timers .entry)) (now (registers .entry)) (now (x .entry)) (now (y .entry)) (now (z .entry)) (now (w .entry)) (now (inputs .entry)) (now (outputs .entry)) (now (memory .entry)) (now (on .entry)) (now (programs .entry)))) (now (slice .entry)) (now (reply .entry)) r (tables (now (timers .exit)) (now (registers .exit)) (now (x .exit)) (now (y .exit)) (now (z .exit)) (now (w .exit)) (now (inputs .exit)) (now (outputs .exit)) (now (memory .exit)) (now (on .exit)) (now (programs .exit))) (now (reply .exit)) ⌝ }
 {
-    if !has_room(programs, reply) {
-        return refusal(1, 0);
-    }
     let mut number: u8 = 0;
     let mut station: u8 = 0;
     let mut position: usize = 0;
@@ -254,5 +252,105 @@ pub fn serve(
             reply,
         ),
         Found::Nowhere => refusal(8, 0),
+    }
+}
+
+// An answer without its length: the number and the position.
+pub struct Told {
+    pub number: u8,
+    pub position: usize,
+}
+
+// The same, for its two callers, here and in the crate hosts. Having two, it is compiled apart from them: so the slice is taken
+// anew, and the length told apart, which keeps both from being copied through memory on the way (docs/SPEED.md).
+pub fn serve_told(
+    timers: &mut [[u16; 16]; 4],
+    registers: &mut [[u16; 64]; 4],
+    x: &mut [[i32; 100]; 4],
+    y: &mut [[i32; 100]; 4],
+    z: &mut [[i32; 100]; 4],
+    w: &mut [[i32; 100]; 4],
+    inputs: &mut [[u8; 32]; 4],
+    outputs: &mut [[u8; 32]; 4],
+    memory: &mut [[u8; 16]; 4],
+    on: &mut [u16; 4],
+    programs: &mut [u8],
+    stations: &[u8; 4],
+    slice: &[u8],
+    reply: &mut [u8],
+    count: &mut usize,
+) -> Told
+    requires { ⌜ hasRoom (length (now programs)) (length (now reply)) ≡ true ⌝ }
+    ensures { λ r. ⌜ Served (box (now (stations .entry)) (tables (now (timers .entry)) (now (registers .entry)) (now (x .entry)) (now (y .entry)) (now (z .entry)) (now (w .entry)) (now (inputs .entry)) (now (outputs .entry)) (now (memory .entry)) (now (on .entry)) (now (programs .entry)))) (now (slice .entry)) (now (reply .entry)) (sentOf r (now (count .exit))) (tables (now (timers .exit)) (now (registers .exit)) (now (x .exit)) (now (y .exit)) (now (z .exit)) (now (w .exit)) (now (inputs .exit)) (now (outputs .exit)) (now (memory .exit)) (now (on .exit)) (now (programs .exit))) (now (reply .exit)) ⌝ }
+{
+    let n = slice.len();
+    let sent = serve_slice(
+        timers,
+        registers,
+        x,
+        y,
+        z,
+        w,
+        inputs,
+        outputs,
+        memory,
+        on,
+        programs,
+        stations,
+        &slice[..n],
+        reply,
+    );
+    *count = sent.length;
+    Told {
+        number: sent.number,
+        position: sent.position,
+    }
+}
+
+// Serves a slice: checks 1 to 12, in their order. With a reply, its bytes stand at the front of the reply
+// area; with none, the length is 0 and the area untouched. A refusal changes no table.
+pub fn serve(
+    timers: &mut [[u16; 16]; 4],
+    registers: &mut [[u16; 64]; 4],
+    x: &mut [[i32; 100]; 4],
+    y: &mut [[i32; 100]; 4],
+    z: &mut [[i32; 100]; 4],
+    w: &mut [[i32; 100]; 4],
+    inputs: &mut [[u8; 32]; 4],
+    outputs: &mut [[u8; 32]; 4],
+    memory: &mut [[u8; 16]; 4],
+    on: &mut [u16; 4],
+    programs: &mut [u8],
+    stations: &[u8; 4],
+    slice: &[u8],
+    reply: &mut [u8],
+) -> Sent
+    ensures { λ r. ⌜ Served (box (now (stations .entry)) (tables (now (timers .entry)) (now (registers .entry)) (now (x .entry)) (now (y .entry)) (now (z .entry)) (now (w .entry)) (now (inputs .entry)) (now (outputs .entry)) (now (memory .entry)) (now (on .entry)) (now (programs .entry)))) (now (slice .entry)) (now (reply .entry)) r (tables (now (timers .exit)) (now (registers .exit)) (now (x .exit)) (now (y .exit)) (now (z .exit)) (now (w .exit)) (now (inputs .exit)) (now (outputs .exit)) (now (memory .exit)) (now (on .exit)) (now (programs .exit))) (now (reply .exit)) ⌝ }
+{
+    if !has_room(programs, reply) {
+        return refusal(1, 0);
+    }
+    let mut length = 0;
+    let told = serve_told(
+        timers,
+        registers,
+        x,
+        y,
+        z,
+        w,
+        inputs,
+        outputs,
+        memory,
+        on,
+        programs,
+        stations,
+        slice,
+        reply,
+        &mut length,
+    );
+    Sent {
+        number: told.number,
+        length,
+        position: told.position,
     }
 }

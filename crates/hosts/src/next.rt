@@ -1,7 +1,8 @@
 // The next slice of two ports, served.
 use chooser::choose::NONE;
 use chooser::choose::choose;
-use gateway::serve::serve;
+use gateway::serve::has_room;
+use gateway::serve::serve_told;
 use harl::message::Sent;
 use harl::message::refusal;
 ghost use Rattle.chooser.specs.Turn.{buffers};
@@ -49,7 +50,14 @@ pub fn serve_next<'a>(
             sent: refusal(number, 0),
         };
     }
-    let sent = serve(
+    if !has_room(programs, reply) {
+        return Next {
+            port,
+            sent: refusal(1, 0),
+        };
+    }
+    let mut length = 0;
+    let told = serve_told(
         timers,
         registers,
         x,
@@ -64,6 +72,12 @@ pub fn serve_next<'a>(
         stations,
         slice,
         reply,
+        &mut length,
     );
+    let sent = Sent {
+        number: told.number,
+        length,
+        position: told.position,
+    };
     Next { port, sent }
 }

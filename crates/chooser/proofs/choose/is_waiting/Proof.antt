@@ -1,4 +1,3 @@
-use borrow.Author.Needs.{needs}
 use borrow.Author.Tests.{eq-eqb, ne-eqb}
 use Rattle.chooser.specs.Turn.{isWaiting}
 use Rattle.chooser.proofs.choose.is_waiting.Statement.{statement}
