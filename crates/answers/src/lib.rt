@@ -2,4 +2,6 @@
 //
 // The caller lends the tables and the output. What a line does to the box, and the line that answers it, are
 // definitions of specs/.
+#![tactic(auto)]
+
 pub mod answer; // answer.rt: one line answered

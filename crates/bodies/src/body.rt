@@ -22,7 +22,7 @@ use text::whole::{Whole, put_shortest, read_whole};
 // What the fields after a name are: a number, numbers as data (zeros for an LN, which has none), and where the data start;
 // a number, texts as data, which stand in the array that was lent, and where they start; or the position where the fields
 // are wrong.
-#[derive(Drop)]
+#[derive(Clone, Copy)]
 pub enum Shape {
     Of(u16, Row, usize),
     Texts(u16, usize),
@@ -31,14 +31,14 @@ pub enum Shape {
 
 // What an accepted body asks for: a request; or that the step of this number be stored, whose texts stand in the array that
 // was lent.
-#[derive(Drop)]
+#[derive(Clone, Copy)]
 pub enum Parsed {
     Request(Request),
     Step(u16),
 }
 
 // What a body is. A refusal carries its number, and whether it answers an SN name, on which the form of its reply depends.
-#[derive(Drop)]
+#[derive(Clone, Copy)]
 pub enum Verdict {
     Accepted(Parsed),
     Refused(u8, bool),
@@ -46,7 +46,7 @@ pub enum Verdict {
 
 // That, and the position in the slice where the body is wrong; 0 where it is accepted. The position and the texts stand
 // beside the enum, so that no accepted request is copied with room for them.
-#[derive(Drop)]
+#[derive(Clone, Copy)]
 pub struct JudgedBody {
     pub verdict: Verdict,
     pub position: usize,

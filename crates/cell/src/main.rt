@@ -1,6 +1,8 @@
 // Reads lines from standard input, each the hexadecimal capitals of one slice, and answers each by a line.
 // Both come and go in blocks, so that any number of lines is answered in the same memory. What is done
 // between reading and writing is the crate `stream`.
+#![tactic(auto)]
+
 ghost use Rattle.std.specs.Prelude.{◌≡◌, ◌⊎◌, ◌+◌, ◌≤◌, length};
 ghost use Rattle.tables.specs.Tables.{tables};
 ghost use Rattle.stream.specs.Cell.{Within, cell_of};

@@ -1,6 +1,8 @@
 // Compares the charts of signals as the manual prints them with the places that the gateway computes, and prints
 // a line for each row. What must be printed stands in the file stdout, which was written from the manual and not
 // from a run.
+#![tactic(auto)]
+
 mod printed; // printed.rt: the charts as printed
 
 use crate::printed::{memory_bits, signals};
@@ -8,7 +10,7 @@ use commands::request::Signal;
 use ports::place::{memory_place, signal_place};
 use print::{put, put_whole};
 
-#[derive(Drop)]
+#[derive(Clone, Copy)]
 enum Chart {
     Signals,
     MemoryBits,

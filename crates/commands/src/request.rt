@@ -8,15 +8,15 @@ use steps::step::Step;
 use steps::texts::Text;
 
 // The number of one signal or memory bit. It is never interchangeable with a port's.
-#[derive(Drop)]
+#[derive(Clone, Copy)]
 pub struct Signal(pub u16);
 
 // The number of a port of eight.
-#[derive(Drop)]
+#[derive(Clone, Copy)]
 pub struct Port(pub u16);
 
 // An offset row in hundredths of a millimetre. As the data of another kind, a single number stands in x.
-#[derive(Drop)]
+#[derive(Clone, Copy)]
 pub struct Row {
     pub x: i32,
     pub y: i32,
@@ -25,7 +25,7 @@ pub struct Row {
 }
 
 // What an LN asks for.
-#[derive(Drop)]
+#[derive(Clone, Copy)]
 pub enum Load {
     Timer(u16),
     Register(u16),
@@ -40,7 +40,7 @@ pub enum Load {
 }
 
 // What an SN replaces, and by what.
-#[derive(Drop)]
+#[derive(Clone, Copy)]
 pub enum Store {
     Timer(u16, i32),
     Register(u16, i32),
@@ -52,14 +52,14 @@ pub enum Store {
     Step(u16, Step),
 }
 
-#[derive(Drop)]
+#[derive(Clone, Copy)]
 pub enum Request {
     Load(Load),
     Store(Store),
 }
 
 // The data of a request: none for an LN, the numbers or the texts of an SN.
-#[derive(Drop)]
+#[derive(Clone, Copy)]
 pub enum Payload {
     None,
     Numbers(Row),
@@ -67,7 +67,7 @@ pub enum Payload {
 }
 
 // A request as its text has it: the command, the number, and the data.
-#[derive(Drop)]
+#[derive(Clone, Copy)]
 pub struct Parts {
     pub command: Command,
     pub number: u16,

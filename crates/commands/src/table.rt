@@ -5,7 +5,7 @@ ghost use Rattle.commands.specs.Table.{loads, stores, rule_of};
 use names::command::Command;
 
 // What numbers as data are: a timer's or a register's value, an offset row, one signal or a port of eight.
-#[derive(Drop)]
+#[derive(Clone, Copy)]
 pub enum Kind {
     Timer,
     Register,
@@ -15,14 +15,14 @@ pub enum Kind {
 }
 
 // What a command's data are: numbers of a kind, or the texts of a step.
-#[derive(Drop)]
+#[derive(Clone, Copy)]
 pub enum Form {
     Numbers(Kind),
     Texts,
 }
 
 // A row of the table: whether the command stores (SN) or loads (LN), its data, and its first and last number.
-#[derive(Drop)]
+#[derive(Clone, Copy)]
 pub struct Rule {
     pub store: bool,
     pub form: Form,

@@ -1,6 +1,8 @@
 // Takes standard input as one line of loose bytes, cut in four ways, and prints the slices that the receiver hands
 // out; then feeds it a mebibyte of each of four kinds, and calls it by hand (document 02, E1). The stored output came
 // from a model and not from this program.
+#![tactic(auto)]
+
 ghost use Rattle.std.specs.Prelude.{◌≡◌, ◌<◌, ◌≤◌, length};
 
 use libc::STDIN_FILENO;
@@ -9,7 +11,7 @@ use receiver::receive::receive;
 
 // What a call came to: where the bytes that are left begin, and the length of the slice that was finished, 0 for
 // none.
-#[derive(Drop)]
+#[derive(Clone, Copy)]
 struct Turn {
     next: usize,
     length: usize,
@@ -90,7 +92,7 @@ fn put_cuts(line: &[u8]) {
     put_cut(line, 65536);
 }
 
-#[derive(Drop)]
+#[derive(Clone, Copy)]
 enum Feed {
     Noise,
     Stx,

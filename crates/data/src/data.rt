@@ -11,7 +11,7 @@ use text::put::Cursor;
 
 // What fields are as data; where they are not, with the position where they are wrong. Texts stand beside the enum, in an
 // array that the caller lends, so that no numbers are copied with room for them.
-#[derive(Drop)]
+#[derive(Clone, Copy)]
 pub enum DataRead {
     Numbers(Row),
     Texts,

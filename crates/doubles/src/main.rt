@@ -1,6 +1,8 @@
 // Reads pairs of frames from standard input, a request and its reply on a line, and prints what the reply carries with
 // its numbers as doubles, each by the hexadecimal digits of its bits (document 02, E10). The stored output did not come from
 // this program.
+#![tactic(auto)]
+
 use commands::request::Request;
 use harl::message::{Asked, read_request};
 use libc::STDIN_FILENO;

@@ -1,6 +1,8 @@
 // Runs the examples of documents 01 and 02 against the code, by a script of a line for each, and prints a line for
 // each answer. What must be printed stands in the file stdout, which was written from the documents and not from
 // a run.
+#![tactic(auto)]
+
 mod frames; // frames.rt: slices read as frames, and a frame written
 mod numerals; // numerals.rt: numbers read and written
 mod run; // run.rt: the script run line by line

@@ -1,5 +1,7 @@
 // Examples of setup, serving and input calls: each call is made on the lent tables, and a line says what it
 // answered and whether any table of any arm changed.
+#![tactic(auto)]
+
 mod script; // script.rt: what a line of the script asks for
 mod snapshot; // snapshot.rt: the tables before and after a call compared
 mod memory; // memory.rt: the memory of START programs shown, written and compared

@@ -11,7 +11,7 @@ use text::put::{Cursor, put_bytes};
 
 // What is tried of a row: the name's first letter, how many data are given, the word of the number, the field of
 // the datum that is tried and its word.
-#[derive(Drop)]
+#[derive(Clone, Copy)]
 struct Trial {
     letter: u8,
     count: usize,

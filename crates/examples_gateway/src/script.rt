@@ -4,7 +4,7 @@ use print::{part, put, put_slice};
 use text::whole::{Whole, read_whole};
 
 // What a line asks for.
-#[derive(Drop)]
+#[derive(Clone, Copy)]
 pub enum Step {
     // "setup" and four stations: a new box, in the memory of the last.
     Setup,

@@ -8,7 +8,7 @@ use print::{front, put, put_refusal, put_slice, put_written};
 use replies::reply::{Data, Outcome};
 
 // What a reply carries, and the letter of the request that it answers.
-#[derive(Drop)]
+#[derive(Clone, Copy)]
 struct Reply(Outcome, u8);
 
 // Reads a slice as the reply to the request of a letter.

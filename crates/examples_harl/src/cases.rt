@@ -3,7 +3,7 @@ use crate::typed_steps::step_of;
 use commands::request::{Load, Port, Request, Row, Signal, Store};
 
 // A request, and the station that it is for.
-#[derive(Drop)]
+#[derive(Clone, Copy)]
 pub struct Case(pub u8, pub Request);
 
 fn load(station: u8, load: Load) -> Case {

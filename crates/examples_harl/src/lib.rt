@@ -1,4 +1,6 @@
 // Examples of requests and replies: what is read and written is printed, a line for each.
+#![tactic(auto)]
+
 mod cases; // cases.rt: typed requests
 mod typed_steps; // typed_steps.rt: typed steps
 mod words; // words.rt: typed values in words

@@ -6,7 +6,7 @@ use replies::reply::{Data, Outcome};
 use steps::step::Step;
 
 // The values of an item: none, one, a row, or a step's texts.
-#[derive(Drop)]
+#[derive(Clone, Copy)]
 enum Values {
     Nothing,
     One(i32),
@@ -15,7 +15,7 @@ enum Values {
 }
 
 // A kind, by its place among those that put_kind has; the item's number; and its values.
-#[derive(Drop)]
+#[derive(Clone, Copy)]
 struct Words {
     kind: usize,
     number: u16,

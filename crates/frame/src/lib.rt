@@ -4,6 +4,8 @@
 // in a lent area (memory that the caller owns and passes by reference), and closes it after the body that its
 // caller wrote there. That the frame of a station from 1 to 99 and a body of bytes 20h to 7Eh reads back as
 // itself, where it has 6 to 255 bytes, is proved in proofs/.
+#![tactic(auto)]
+
 pub mod reader; // reader.rt: checks 2 to 7 of a slice
 pub mod writer; // writer.rt: a frame written into a lent area
 

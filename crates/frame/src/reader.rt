@@ -6,7 +6,7 @@ ghost use Rattle.frame.specs.Frame.{stray, Station, read_inner, read_frame, fram
 use crate::{ETX, STX};
 
 // What `lrc_and_stray` finds in a text.
-#[derive(Drop)]
+#[derive(Clone, Copy)]
 pub struct Scanned {
     pub sum: u8,
     pub stray: bool,

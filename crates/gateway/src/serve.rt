@@ -21,7 +21,7 @@ use steps::step::step_of;
 use tables::perform::perform;
 
 // Where a station is.
-#[derive(Drop)]
+#[derive(Clone, Copy)]
 pub enum Found {
     At(usize),
     Nowhere,
@@ -209,7 +209,7 @@ fn serve_slice(
 }
 
 // An answer without its length: the number and the position.
-#[derive(Drop)]
+#[derive(Clone, Copy)]
 pub struct Told {
     pub number: u8,
     pub position: usize,

@@ -15,14 +15,14 @@ use reply_writer::writer::{judge_outcome, put_outcome};
 
 // What a slice is as a request: its station and the request, or the number of its refusal and the position where it is
 // wrong, 0 where there is none to tell.
-#[derive(Drop)]
+#[derive(Clone, Copy)]
 pub enum Asked {
     Accepted(u8, Request),
     Refused(u8, usize),
 }
 
 // What a slice is as a reply: what it carries, or the number and the position of its refusal.
-#[derive(Drop)]
+#[derive(Clone, Copy)]
 pub enum Answered {
     Accepted(Outcome),
     Refused(u8, usize),
@@ -31,7 +31,7 @@ pub enum Answered {
 // What a writer and serving return: the number of the refusal, or 0; the length of the frame; and for a refused slice the
 // position where it is wrong, 0 where there is none to tell.
 #[repr(C)]
-#[derive(Drop)]
+#[derive(Clone, Copy)]
 pub struct Sent {
     pub number: u8,
     pub length: usize,

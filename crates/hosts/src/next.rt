@@ -10,7 +10,7 @@ use harl::message::{Sent, refusal};
 
 // What a call returns: the port that was served, 0 for none, 1 for A, 2 for B; and what serving its slice returned.
 #[repr(C)]
-#[derive(Drop)]
+#[derive(Clone, Copy)]
 pub struct Next {
     pub port: u8,
     pub sent: Sent,

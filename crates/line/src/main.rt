@@ -3,6 +3,8 @@
 //
 // The arguments are the stations of slots 0 to 3, 0 for a slot that is unfitted, as is one without an argument; without any
 // they are 1 2 3 4.
+#![tactic(auto)]
+
 ghost use Rattle.std.specs.Prelude.{◌*◌, ◌≤◌, length};
 ghost use Rattle.io.specs.Counts.{IsPrefixLen};
 
@@ -12,7 +14,7 @@ use slots::setup::setup;
 use text::whole::{Whole, read_whole};
 
 // What an argument is: a number, or any other text.
-#[derive(Drop)]
+#[derive(Clone, Copy)]
 enum Argument {
     Number(u16),
     Other,

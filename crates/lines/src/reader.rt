@@ -4,7 +4,7 @@ ghost use Rattle.std.proofs.lemmas.List.Edits.{sets};
 ghost use Rattle.lines.specs.Lines.{value, is_call, slice_of, line_of, held_after, Short};
 
 // What a line is: a slice of so many bytes, or no call.
-#[derive(Drop)]
+#[derive(Clone, Copy)]
 pub enum Line {
     Slice(usize),
     NoCall,

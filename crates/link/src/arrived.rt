@@ -9,7 +9,7 @@ use gateway::serve::serve;
 use receiver::receive::receive;
 
 // How many bytes were taken, and where the next reply goes.
-#[derive(Drop)]
+#[derive(Clone, Copy)]
 pub struct Part {
     pub taken: usize,
     pub at: usize,

@@ -3,4 +3,6 @@
 // The caller lends the tables, the receiver's state and an area for the replies, which are the caller's to write. What a call
 // does is a definition of specs/; that the replies are those to the slices of the whole line, in whatever parts it arrives, and
 // that demand 3 reads those slices, is proved in proofs/.
+#![tactic(auto)]
+
 pub mod arrived; // arrived.rt: what has arrived, received and served

@@ -8,7 +8,7 @@ use chooser::choose::choose;
 // What a pick comes to: the refusal number, or 0; the port, 0 for none, 1 for A, 2 for B; and how many bytes from the start of
 // its buffer are the slice, 0 for none.
 #[repr(C)]
-#[derive(Drop)]
+#[derive(Clone, Copy)]
 pub struct Choice {
     pub number: u8,
     pub port: u8,

@@ -6,6 +6,8 @@
 // as one of a byte and the answer of serving, how many outputs are on as one of a byte and 16 bits, that of reading a reply as
 // one of two bytes and a size. The caller owns all memory, and no two areas overlap, but for the buffers of two ports, which are
 // only read.
+#![tactic(auto)]
+
 pub mod setup; // setup.rt: a new box
 pub mod serve; // serve.rt: a frame served
 pub mod input; // input.rt: an input port set

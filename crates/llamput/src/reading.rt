@@ -8,7 +8,7 @@ use untyped::read::{convert_values, read_doubles};
 // What reading a reply comes to: the refusal number, or 0; the status that the reply carries, 0 where it carries none; and
 // the position of a refusal.
 #[repr(C)]
-#[derive(Drop)]
+#[derive(Clone, Copy)]
 pub struct Reply {
     pub number: u8,
     pub status: u8,

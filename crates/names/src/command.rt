@@ -11,7 +11,7 @@ use text::put::{Cursor, put_bytes};
 use text::scan::is_end;
 
 // A command, by its name.
-#[derive(Drop)]
+#[derive(Clone, Copy)]
 pub enum Command {
     Lnt,
     Snt,
@@ -70,7 +70,7 @@ const LNA: [u8; 3] = *b"LNA";
 const SNA: [u8; 3] = *b"SNA";
 
 // What a name is.
-#[derive(Drop)]
+#[derive(Clone, Copy)]
 pub enum Named {
     Is(Command),
     Unknown,
@@ -169,7 +169,7 @@ fn command_of(name: &[u8]) -> Named
 }
 
 // What the name at the front of a body is, and where it ends. The end of an unknown one is not looked for.
-#[derive(Drop)]
+#[derive(Clone, Copy)]
 pub struct NameField {
     pub name: Named,
     pub end: usize,

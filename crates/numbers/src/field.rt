@@ -13,14 +13,14 @@ use text::put::Cursor;
 use text::whole::{Whole, put_padded, put_shortest, read_whole};
 
 // What a field is as a value; a malformed one, with the position where it stands.
-#[derive(Drop)]
+#[derive(Clone, Copy)]
 pub enum Field {
     Value(i32),
     Malformed(usize),
 }
 
 // That, and where the field ends. The end of a malformed one is not looked for.
-#[derive(Drop)]
+#[derive(Clone, Copy)]
 pub struct ValueField {
     pub field: Field,
     pub end: usize,

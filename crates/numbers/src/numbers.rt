@@ -10,7 +10,7 @@ use commands::table::Kind;
 use text::put::{Cursor, put_byte};
 
 // What fields are as data; where they are not, with the position where they are wrong.
-#[derive(Drop)]
+#[derive(Clone, Copy)]
 pub enum Values {
     Of(Row),
     Malformed(usize),

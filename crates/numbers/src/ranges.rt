@@ -6,7 +6,7 @@ use commands::request::{Row, fields_of};
 use commands::table::Kind;
 
 // The least and the greatest value of a kind.
-#[derive(Drop)]
+#[derive(Clone, Copy)]
 pub struct Limits {
     pub low: i32,
     pub high: i32,

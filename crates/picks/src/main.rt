@@ -7,6 +7,8 @@
 //   input SLOT PORT BYTE
 //   count SLOT
 // with buffers in hexadecimal capitals, "-" for an empty one, and numbers of up to four digits.
+#![tactic(auto)]
+
 use chooser::choose::{A, NONE, choose};
 use commands::request::Port;
 use hosts::next::serve_next;

@@ -3,5 +3,7 @@
 //
 // Inputs, outputs and memory bits are ports of eight signals. A port of any of them is read alike. Each contract equates
 // the result, and every byte of the ports at exit, with definitions of specs/.
+#![tactic(auto)]
+
 pub mod place; // place.rt: where a signal stands among the ports
 pub mod access; // access.rt: ports read and replaced

@@ -5,7 +5,7 @@ ghost use Rattle.ports.specs.Place.{place_of};
 use commands::request::Signal;
 
 // A bit of a port.
-#[derive(Drop)]
+#[derive(Clone, Copy)]
 pub struct Place {
     pub port: usize,
     pub bit: u8,

@@ -1,5 +1,7 @@
 // Serves the lines of standard input as `cell` does, and prints behind each answer the position in the slice that
 // comes with it (document 02, E9). The stored output did not come from this program.
+#![tactic(auto)]
+
 use gateway::serve::serve;
 use libc::STDIN_FILENO;
 use lines::reader::{Line, read_line};

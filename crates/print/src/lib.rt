@@ -1,4 +1,6 @@
 // What the example programs write on standard output: labels, texts, numbers and bytes.
+#![tactic(auto)]
+
 ghost use Rattle.std.specs.Prelude.{◌<◌, ◌≤◌, length};
 
 use libc::STDOUT_FILENO;

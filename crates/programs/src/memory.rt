@@ -12,7 +12,7 @@ use steps::texts::Text;
 pub const SIZE: usize = 40960;
 
 // What stands at a step.
-#[derive(Drop)]
+#[derive(Clone, Copy)]
 pub enum Found {
     Of(Step),
     Empty,

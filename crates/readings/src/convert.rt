@@ -8,7 +8,7 @@ use replies::reply::{Data, Outcome};
 use steps::step::Step;
 
 // A row of millimetres.
-#[derive(Drop)]
+#[derive(Clone, Copy)]
 pub struct Millimetres {
     pub x: f64,
     pub y: f64,
@@ -17,7 +17,7 @@ pub struct Millimetres {
 }
 
 // The numbers of a reply as doubles: a timer, an offset row, or the value of a register, a signal or a port.
-#[derive(Drop)]
+#[derive(Clone, Copy)]
 pub enum Reading {
     Seconds(f64),
     Millimetres(Millimetres),
@@ -26,7 +26,7 @@ pub enum Reading {
 
 // What a reply carries, converted: a reading, or what has no double and stays as it is: a step's number and its texts, or
 // a status.
-#[derive(Drop)]
+#[derive(Clone, Copy)]
 pub enum Converted {
     Reading(Reading),
     Step(u16, Step),

@@ -8,7 +8,7 @@ use commands::request::Request;
 use harl::message::{Answered, read_reply};
 
 // What a slice is as a reply: what it carries, converted, or the number and the position of its refusal.
-#[derive(Drop)]
+#[derive(Clone, Copy)]
 pub enum ReadReply {
     Accepted(Converted),
     Refused(u8, usize),

@@ -9,7 +9,7 @@ use text::put::{Cursor, put_bytes};
 // What a call returns: the refusal number, or 0; how many bytes were taken; the length of the slice that was finished, 0 for
 // none.
 #[repr(C)]
-#[derive(Drop)]
+#[derive(Clone, Copy)]
 pub struct Reception {
     pub number: u8,
     pub taken: usize,
@@ -17,7 +17,7 @@ pub struct Reception {
 }
 
 // What a byte did: whether it finished a slice, and how many bytes that slice has, or are held.
-#[derive(Drop)]
+#[derive(Clone, Copy)]
 pub struct Step {
     pub done: bool,
     pub count: usize,

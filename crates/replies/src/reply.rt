@@ -18,7 +18,7 @@ pub const DONE: [u8; 2] = *b"00";
 pub const UNKNOWN: [u8; 3] = *b"E09";
 
 // The data of a reply, by their kind; of a step, its number and its texts.
-#[derive(Drop)]
+#[derive(Clone, Copy)]
 pub enum Data {
     Timer(i32),
     Register(i32),
@@ -29,14 +29,14 @@ pub enum Data {
 }
 
 // What a reply carries: data, or a status. For an SN the status 0 means done.
-#[derive(Drop)]
+#[derive(Clone, Copy)]
 pub enum Outcome {
     Data(Data),
     Status(u8),
 }
 
 // Data by their form: a step with its number, numbers with 0.
-#[derive(Drop)]
+#[derive(Clone, Copy)]
 pub struct Content {
     pub number: u16,
     pub form: Form,

@@ -16,7 +16,7 @@ use steps::step::step_of;
 use text::whole::{Whole, read_digits, read_whole};
 
 // What the body of a reply is.
-#[derive(Drop)]
+#[derive(Clone, Copy)]
 pub enum Carried {
     Outcome(Outcome),
     Nothing,

@@ -5,7 +5,7 @@ use crate::slot::is_fitted;
 
 // The refusal number, or 0, and the number asked for.
 #[repr(C)]
-#[derive(Drop)]
+#[derive(Clone, Copy)]
 pub struct Count {
     pub number: u8,
     pub count: u16,

@@ -7,6 +7,8 @@
 //
 // Three entries, none with a `requires`: setup, input and outputs_on. Each contract equates every answer with the model of the
 // crate model.
+#![tactic(auto)]
+
 pub mod setup; // setup.rt: a new box in lent memory
 pub mod slot; // slot.rt: whether a slot is fitted
 pub mod input; // input.rt: an input port set

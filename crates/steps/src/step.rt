@@ -8,7 +8,7 @@ use crate::texts::{Text, TextRead, is_text, put_text, read_text};
 use text::put::{Cursor, put_byte};
 
 // The command and the data, 0 for each that is not there.
-#[derive(Drop)]
+#[derive(Clone, Copy)]
 pub struct Step {
     pub command: Text,
     pub first: Text,
@@ -18,7 +18,7 @@ pub struct Step {
 }
 
 // What fields are as a step; where they are not, with the position where they are wrong.
-#[derive(Drop)]
+#[derive(Clone, Copy)]
 pub enum StepRead {
     Of(Step),
     Malformed(usize),

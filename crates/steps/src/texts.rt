@@ -9,18 +9,18 @@ ghost use Rattle.steps.specs.Text.{chars_of, is_text, text_answer, read_text};
 use text::put::Cursor;
 use text::scan::find;
 
-#[derive(Drop)]
+#[derive(Clone, Copy)]
 pub struct Text(pub u64);
 
 // What a field is as a text; a malformed one, with the position where it stands.
-#[derive(Drop)]
+#[derive(Clone, Copy)]
 pub enum TextRead {
     Of(Text),
     Malformed(usize),
 }
 
 // That, and where the field ends.
-#[derive(Drop)]
+#[derive(Clone, Copy)]
 pub struct TextField {
     pub text: TextRead,
     pub end: usize,

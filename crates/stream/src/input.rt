@@ -9,14 +9,14 @@ use text::scan::find;
 
 // How far the program is: the bytes held of the line that has not ended, and the bytes of output that wait
 // to be written.
-#[derive(Drop)]
+#[derive(Clone, Copy)]
 pub struct Progress {
     pub held: usize,
     pub waiting: usize,
 }
 
 // A part of a block: how many bytes were taken, and how far the program then is.
-#[derive(Drop)]
+#[derive(Clone, Copy)]
 pub struct Part {
     pub taken: usize,
     pub state: Progress,

@@ -41,4 +41,4 @@ above (negsuc n) f t = let e : ◌≡◌ {A = ℕ} 0 1 = cc in absurd (omega ari
 
 -- a signed number that fits is what its bits are read as
 pub i32_back : (z : ℤ) → mag z < 2147483648 → to_z w32 (of_z w32 z) ≡ z
-i32_back z h = to_z-of_z (record { sfits = h })
+i32_back z h = to_z-of_z {w = w32} (record { sfits = h })

@@ -15,27 +15,27 @@ use crate::scan::is_end;
 use crate::whole::{Whole, WholeField, put_shortest, put_two_digits, read_digits, read_whole};
 
 // A number of hundredths without its sign.
-#[derive(Drop)]
+#[derive(Clone, Copy)]
 pub enum Magnitude {
     Size(u32),
     Unreadable,
 }
 
 // What a text is as a number of hundredths; a malformed one, with the position where it stands.
-#[derive(Drop)]
+#[derive(Clone, Copy)]
 pub enum Hundredths {
     Value(i32),
     Malformed(usize),
 }
 
 // What a field is as either, and where the field ends. The end of one that cannot be read is not looked for.
-#[derive(Drop)]
+#[derive(Clone, Copy)]
 pub struct MagnitudeField {
     pub magnitude: Magnitude,
     pub end: usize,
 }
 
-#[derive(Drop)]
+#[derive(Clone, Copy)]
 pub struct HundredthsField {
     pub hundredths: Hundredths,
     pub end: usize,

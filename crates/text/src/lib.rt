@@ -5,6 +5,8 @@
 // into a lent area (memory that the caller owns and passes by reference). Each takes and returns a cursor: the index of the next byte,
 // and the exclusive or of the bytes written so far. What each reads and writes is a definition of specs/; that every
 // number in range reads back as itself is proved in proofs/.
+#![tactic(auto)]
+
 pub mod scan; // scan.rt: the index of the first byte of a given value, and the end of a field
 pub mod put; // put.rt: bytes written into a lent area
 pub mod whole; // whole.rt: whole numbers of 1 to 4 digits

@@ -4,7 +4,7 @@ ghost use Rattle.std.specs.Prelude.{[], ◌∷◌, ◌<◌, ◌≤◌, ◌+◌, 
 ghost use Rattle.text.specs.Put.{Put};
 
 // Where the next byte is written, and the exclusive or of the bytes written so far.
-#[derive(Drop)]
+#[derive(Clone, Copy)]
 pub struct Cursor {
     pub at: usize,
     pub sum: u8,

@@ -10,21 +10,21 @@ use crate::put::{Cursor, put_byte};
 use crate::scan::is_end;
 
 // What a text is as a whole number; a malformed one, with the position where it stands.
-#[derive(Drop)]
+#[derive(Clone, Copy)]
 pub enum Whole {
     Value(u16),
     Malformed(usize),
 }
 
 // The digits at an index: what they make, and where they end.
-#[derive(Drop)]
+#[derive(Clone, Copy)]
 pub struct Digits {
     pub value: u16,
     pub end: usize,
 }
 
 // What a field is as a whole number, and where the field ends. The end of a malformed one is not looked for.
-#[derive(Drop)]
+#[derive(Clone, Copy)]
 pub struct WholeField {
     pub whole: Whole,
     pub end: usize,

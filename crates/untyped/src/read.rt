@@ -17,7 +17,7 @@ use steps::step::{packed_of, step_of};
 // The number and the position of a refusal, 0 for none; the kind of what the reply carries; and the status, the doubles
 // and the texts, 0 for each that there is none. The kinds are 0 for nothing, 1 for seconds, 2 for millimetres, 3 for a
 // count, 4 for a status and 5 for a step.
-#[derive(Drop)]
+#[derive(Clone, Copy)]
 pub struct Numbers {
     pub number: u8,
     pub position: usize,

@@ -1,0 +1,29 @@
+use Prim.Native.Nat.{◌+◌, ◌-◌, ◌≤◌}
+use mathlib.Core.Path.{◌≡◌}
+use native.Mathlib.Omega.{arith}
+use borrow.Author.Tests.{lt-ltb, le-ltb}
+use lib.ListN.{length, drop}
+use Rattle.text.proofs.Laws.{until_hit, until_miss, until_end}
+use Rattle.frame.specs.Frame.{is_stray, stray}
+use Rattle.frame.proofs.reader.find_stray.Goals as goal
+
+pub returns-then-b-lt32 : goal.returns-then-b-lt32
+returns-then-b-lt32 c =
+    let both = omega (arith, until_hit is_stray c.args.s.now c.loop-i.i (omega arith) (simp (lt-ltb _ _ c.if-b-lt32.true))) in
+    record { value = both.0; upper_bound = both.1 }
+
+pub returns-then-b-gt126 : goal.returns-then-b-gt126
+returns-then-b-gt126 c =
+    let high = lt-ltb _ _ c.if-b-gt126.true in
+    let both = omega (arith, until_hit is_stray c.args.s.now c.loop-i.i (omega arith) (simp (le-ltb _ _ c.if-b-lt32.false, high))) in
+    record { value = both.0; upper_bound = both.1 }
+
+pub loop-i-preserved : goal.loop-i-preserved
+loop-i-preserved c =
+    let high = le-ltb _ _ c.if-b-gt126.false in
+    omega (arith, until_miss is_stray c.args.s.now c.loop-i.i (omega arith) (simp (le-ltb _ _ c.if-b-lt32.false, high)))
+
+pub returns : goal.returns
+returns c =
+    let both = omega (arith, until_end is_stray c.args.s.now c.loop-i.i (omega arith)) in
+    record { value = both.0; upper_bound = both.1 }
