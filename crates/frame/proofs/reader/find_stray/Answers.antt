@@ -9,14 +9,12 @@ use Rattle.frame.proofs.reader.find_stray.Goals as goal
 
 pub returns-then-b-lt32 : goal.returns-then-b-lt32
 returns-then-b-lt32 c =
-    let both = omega (arith, until_hit is_stray c.args.s.now c.loop-i.i (omega arith) (simp (lt-ltb _ _ c.if-b-lt32.true))) in
-    record { value = both.0; upper_bound = both.1 }
+    record { value = omega (arith, until_hit is_stray c.args.s.now c.loop-i.i (omega arith) (simp (lt-ltb _ _ c.if-b-lt32.true))); upper_bound = omega (arith, until_hit is_stray c.args.s.now c.loop-i.i (omega arith) (simp (lt-ltb _ _ c.if-b-lt32.true))) }
 
 pub returns-then-b-gt126 : goal.returns-then-b-gt126
 returns-then-b-gt126 c =
     let high = lt-ltb _ _ c.if-b-gt126.true in
-    let both = omega (arith, until_hit is_stray c.args.s.now c.loop-i.i (omega arith) (simp (le-ltb _ _ c.if-b-lt32.false, high))) in
-    record { value = both.0; upper_bound = both.1 }
+    record { value = omega (arith, until_hit is_stray c.args.s.now c.loop-i.i (omega arith) (simp (le-ltb _ _ c.if-b-lt32.false, high))); upper_bound = omega (arith, until_hit is_stray c.args.s.now c.loop-i.i (omega arith) (simp (le-ltb _ _ c.if-b-lt32.false, high))) }
 
 pub loop-i-preserved : goal.loop-i-preserved
 loop-i-preserved c =
@@ -25,5 +23,4 @@ loop-i-preserved c =
 
 pub returns : goal.returns
 returns c =
-    let both = omega (arith, until_end is_stray c.args.s.now c.loop-i.i (omega arith)) in
-    record { value = both.0; upper_bound = both.1 }
+    record { value = omega (arith, until_end is_stray c.args.s.now c.loop-i.i (omega arith)); upper_bound = omega (arith, until_end is_stray c.args.s.now c.loop-i.i (omega arith)) }

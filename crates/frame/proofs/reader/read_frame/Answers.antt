@@ -29,41 +29,45 @@ left c =
 pub returns-then-slice-lt6 : goal.returns-then-slice-lt6
 unfolding read_frame frame_position
 returns-then-slice-lt6 c =
-    let both = simp (lt-ltb _ _ c.if-slice-lt6.true) (answers, refl) in
-    record { read = both.0; position_after = both.1 }
+    record { read = simp (lt-ltb _ _ c.if-slice-lt6.true) (answers); position_after = simp (lt-ltb _ _ c.if-slice-lt6.true) (refl) }
 
 pub returns-then-slice-gt255 : goal.returns-then-slice-gt255
 unfolding read_frame frame_position
 returns-then-slice-gt255 c =
-    let both = simp (le-ltb _ _ c.if-slice-lt6.false, lt-ltb _ _ c.if-slice-gt255.true) (answers, refl) in
-    record { read = both.0; position_after = both.1 }
+    record { read = simp (le-ltb _ _ c.if-slice-lt6.false, lt-ltb _ _ c.if-slice-gt255.true) (answers); position_after = simp (le-ltb _ _ c.if-slice-lt6.false, lt-ltb _ _ c.if-slice-gt255.true) (refl) }
 
 pub returns-then-slice-ne-STX : goal.returns-then-slice-ne-STX
 unfolding read_frame frame_position
 returns-then-slice-ne-STX c =
-    let both = simp (
+    record { read = simp (
       le-ltb _ _ c.if-slice-lt6.false,
       le-ltb _ _ c.if-slice-gt255.false,
       ne_eqb _ _ c.if-slice-ne-STX.true,
-    ) (answers, refl) in
-    record { read = both.0; position_after = both.1 }
+    ) (answers); position_after = simp (
+      le-ltb _ _ c.if-slice-lt6.false,
+      le-ltb _ _ c.if-slice-gt255.false,
+      ne_eqb _ _ c.if-slice-ne-STX.true,
+    ) (refl) }
 
 pub returns-then-slice-etx-ne-ETX : goal.returns-then-slice-etx-ne-ETX
 unfolding read_frame frame_position
 returns-then-slice-etx-ne-ETX c =
-    let both = simp (
+    record { read = simp (
       le-ltb _ _ c.if-slice-lt6.false,
       le-ltb _ _ c.if-slice-gt255.false,
       eq-eqb _ _ c.if-slice-ne-STX.false,
       ne_eqb _ _ c.if-slice-etx-ne-ETX.true,
-    ) (answers, refl) in
-    record { read = both.0; position_after = both.1 }
+    ) (answers); position_after = simp (
+      le-ltb _ _ c.if-slice-lt6.false,
+      le-ltb _ _ c.if-slice-gt255.false,
+      eq-eqb _ _ c.if-slice-ne-STX.false,
+      ne_eqb _ _ c.if-slice-etx-ne-ETX.true,
+    ) (refl) }
 
 pub returns-then-slice-last : goal.returns-then-slice-last
 unfolding frame_position
 returns-then-slice-last c =
-    let both = rw (left c, ne_eqb _ _ c.if-slice-last.true) (answers, refl) in
-    record { read = both.0; position_after = both.1 }
+    record { read = rw (left c, ne_eqb _ _ c.if-slice-last.true) (answers); position_after = rw (left c, ne_eqb _ _ c.if-slice-last.true) (refl) }
 
 pub returns-then-scanned : goal.returns-then-scanned
 unfolding frame_position

@@ -4,5 +4,4 @@ use Rattle.ports.proofs.access.store_output.Goals as goal
 
 pub returns : goal.returns
 returns c =
-    let both = rw (c.byte_with-b.ensures, to_z-of_z c.ranges.v) at c.set_output.ensures in
-    record { ports_after = both.0; value = both.1 }
+    record { ports_after = rw (c.byte_with-b.ensures, to_z-of_z c.ranges.v) at c.set_output.ensures; value = rw (c.byte_with-b.ensures, to_z-of_z c.ranges.v) at c.set_output.ensures }

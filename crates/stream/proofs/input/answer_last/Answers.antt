@@ -9,8 +9,7 @@ returns-then-start-eq0 c =
 
 pub end_line-requires : goal.end_line-requires
 end_line-requires c =
-    let both = search rules in
-    record { within = both.0; waiting_bound = both.1 }
+    record { within = search rules; waiting_bound = search rules }
 
 pub returns : goal.returns
 returns c =

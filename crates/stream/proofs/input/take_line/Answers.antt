@@ -22,8 +22,7 @@ returns-then-n-input c =
 
 pub end_line-next-requires : goal.end_line-next-requires
 end_line-next-requires c =
-    let both = search rules in
-    record { within = both.0; waiting_bound = both.1 }
+    record { within = search rules; waiting_bound = search rules }
 
 pub returns : goal.returns
 returns c =
