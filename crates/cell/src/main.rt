@@ -8,10 +8,13 @@ ghost use Rattle.tables.specs.Tables.{tables};
 ghost use Rattle.stream.specs.Cell.{Within, cell_of};
 ghost use Rattle.cell.specs.Block.{BlockTaken};
 
-use libc::{STDIN_FILENO, STDOUT_FILENO};
 use lines::collect::front;
 use slots::setup::setup;
 use stream::input::{Progress, answer_last, take_block};
+
+// The descriptors of standard input and standard output.
+const STDIN_FILENO: i32 = 0;
+const STDOUT_FILENO: i32 = 1;
 
 // Writes the waiting bytes out where fewer than 132 are free, which the longest answer has. Returns how many
 // bytes then wait.
@@ -87,8 +90,7 @@ fn answer_block(
 fn read_block(input: &mut [u8]) -> usize
     ensures { result ≤ length input.new }
 {
-    let got = libc::read(STDIN_FILENO, input);
-    io::count(got, input)
+    io::read_full(STDIN_FILENO, input)
 }
 
 // Answers every line of standard input that has ended. A proved loop has to end, and nothing says that the

@@ -108,6 +108,7 @@ fn is_long(name: &[u8], long: [u8; 4]) -> bool
 }
 
 // The command that a name is.
+#[tactic(auto, unfolding(crate::specs::Command::command_of, crate::specs::Command::among, crate::specs::Command::name_of))]
 fn command_of(name: &[u8]) -> Named
     ensures { result ≡ command_of name.now }
 {

@@ -1,7 +1,7 @@
 -- Data as text (document 01, "Commands"; for rows document 02, E6): as many fields as values, parted by one SP each.
 use Rattle.std.specs.Prelude.{ℕ, ◌%◌, Bool, true, List, map, ℤ, pos, nat_abs, length, drop, replicate}
 use Rattle.std.proofs.Math.Option
-use Rattle.std.proofs.Math.Option.{Option, none, some}
+use Rattle.std.proofs.Math.Option.{Option}
 use Rattle.text.specs.Whole.{read_whole, shortest, padded}
 use Rattle.text.specs.Hundredths.{read_hundredths, hundredths_text}
 use Rattle.text.specs.Read.{Read, value, wrong, read_at}

@@ -42,6 +42,7 @@ pub fn limits_of(kind: Kind) -> Limits
 }
 
 // Whether a value is in its kind's range.
+#[tactic(auto, unfolding(crate::specs::Ranges::in_range))]
 fn in_range(kind: Kind, v: i32) -> bool
     ensures { result ≡ in_range kind v }
 {

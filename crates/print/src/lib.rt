@@ -3,13 +3,17 @@
 
 ghost use Rattle.std.specs.Prelude.{◌<◌, ◌≤◌, length};
 
-use libc::STDOUT_FILENO;
 use text::hundredths::unsigned_abs;
 use text::put::Cursor;
 use text::scan::find;
 use text::whole::put_two_digits;
 
 pub mod texts; // texts.rt: typed texts as characters
+
+// The descriptors of standard input and standard output.
+pub const STDIN_FILENO: i32 = 0;
+
+const STDOUT_FILENO: i32 = 1;
 
 pub fn put(s: &[u8]) {
     io::write_all(STDOUT_FILENO, s);

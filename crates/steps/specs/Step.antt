@@ -1,7 +1,7 @@
 -- Steps (document 02, E3): a command and up to four data without a gap, each a text.
 use Rattle.std.specs.Prelude.{ℕ, Bool, true, false, cond, ◌&&◌, List, [], ◌∷◌, map, leb, eqb, length, get_or, drop, replicate}
 use Rattle.std.proofs.Math.Option
-use Rattle.std.proofs.Math.Option.{Option, none, some}
+use Rattle.std.proofs.Math.Option.{Option, none}
 use Rattle.text.specs.Read.{Read, value, wrong, read_at}
 use Rattle.frame.specs.Fields.{fields, placed, read_fields, reads_as, spaced, offending}
 use Rattle.steps.specs.declared.step.Step.{Step}

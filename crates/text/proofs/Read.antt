@@ -3,7 +3,7 @@ use Prim.Native.Nat.{ℕ}
 use mathlib.Core.Path.{◌≡◌, refl, sym, ap}
 use mathlib.Core.Option.{Option, none, some}
 use native.Mathlib.Omega.{arith}
-use Rattle.text.specs.Read.{Read, value, wrong, read_at}
+use Rattle.text.specs.Read.{value, wrong, read_at}
 
 module _ {A : Type 0} where
   pub no_value : {B : Type 0} {p : ℕ} {a : A} → wrong p ≡ value a → B

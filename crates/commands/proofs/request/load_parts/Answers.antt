@@ -1,4 +1,3 @@
-use borrow.Author.Rules.{rules}
 use Rattle.commands.proofs.request.load_parts.Goals as goal
 
 pub returns-in-Timer : goal.returns-in-Timer

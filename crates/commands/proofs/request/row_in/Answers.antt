@@ -1,4 +1,3 @@
-use borrow.Author.Rules.{rules}
 use Rattle.commands.proofs.request.row_in.Goals as goal
 
 pub returns-in-Texts : goal.returns-in-Texts

@@ -1,4 +1,3 @@
-use borrow.Author.Rules.{rules}
 use Rattle.commands.proofs.table.rule_of.Goals as goal
 
 pub returns-in-Lnt : goal.returns-in-Lnt

@@ -1,11 +1,8 @@
 -- The invariant: what stands before the first stray byte is what was passed and what is left before it.
 use Prim.Native.Nat.{◌+◌, ◌-◌, ◌≤◌}
 use mathlib.Core.Path.{◌≡◌}
-use native.Mathlib.Omega.{arith}
-use borrow.Author.Tests.{lt-ltb, le-ltb}
 use lib.ListN.{length, drop}
-use Rattle.text.proofs.Laws.{until_hit, until_miss, until_end}
-use Rattle.frame.specs.Frame.{is_stray, stray}
+use Rattle.frame.specs.Frame.{stray}
 use Rattle.frame.proofs.reader.find_stray.Given as goal
 
 abbrev pub invariant-loop-i : goal.invariant-loop-i

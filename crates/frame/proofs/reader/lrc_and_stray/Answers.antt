@@ -1,13 +1,11 @@
-use Prim.Native.Nat.{◌-◌, ◌≤◌}
-use mathlib.Core.Path.{◌≡◌, refl, sym, ap, ◌∙◌}
+use mathlib.Core.Path.{refl, sym, ap, ◌∙◌}
 use mathlib.Core.Bool.{Bool, ◌||◌}
 use native.Mathlib.Omega.{arith}
 use lib.Dec.{ltb}
-use lib.ListN.{length, get_or, drop}
-use Rattle.text.specs.Put.{xor_onto}
+use lib.ListN.{get_or}
 use Rattle.frame.specs.Checksum.{lrc_of}
 use Rattle.frame.specs.Frame.{is_stray}
-use Rattle.frame.proofs.Pass.{some, xor_step, xor_done, some_step, some_done, flag_step, flag_done}
+use Rattle.frame.proofs.Pass.{xor_step, xor_done, some_step, some_done, flag_step, flag_done}
 use Rattle.frame.proofs.reader.lrc_and_stray.Goals as goal
 
 pub loop-i-init : goal.loop-i-init

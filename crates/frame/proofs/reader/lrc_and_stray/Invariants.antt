@@ -1,14 +1,12 @@
 -- The invariant: the bytes passed made the sum and the flag, and the rest is taken into both.
 use Prim.Native.Nat.{◌-◌, ◌≤◌}
-use mathlib.Core.Path.{◌≡◌, refl, sym, ap, ◌∙◌}
-use mathlib.Core.Bool.{Bool, ◌||◌}
-use native.Mathlib.Omega.{arith}
-use lib.Dec.{ltb}
-use lib.ListN.{length, get_or, drop}
+use mathlib.Core.Path.{◌≡◌}
+use mathlib.Core.Bool.{◌||◌}
+use lib.ListN.{length, drop}
 use Rattle.text.specs.Put.{xor_onto}
 use Rattle.frame.specs.Checksum.{lrc_of}
 use Rattle.frame.specs.Frame.{is_stray}
-use Rattle.frame.proofs.Pass.{some, xor_step, xor_done, some_step, some_done, flag_step, flag_done}
+use Rattle.frame.proofs.Pass.{some}
 use Rattle.frame.proofs.reader.lrc_and_stray.Given as goal
 
 abbrev pub invariant-loop-i : goal.invariant-loop-i

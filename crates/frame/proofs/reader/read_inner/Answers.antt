@@ -1,7 +1,6 @@
 -- Each return goes by the station that was read.
 use mathlib.Core.Path.{refl, sym, ◌∙◌}
 use native.Mathlib.Omega.{arith}
-use borrow.Author.Rules.{rules}
 use Rattle.text.proofs.Laws.{rest}
 use Rattle.frame.specs.Frame.{frame_position}
 use Rattle.frame.proofs.Laws.{answers}

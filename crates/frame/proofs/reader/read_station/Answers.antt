@@ -1,6 +1,5 @@
 -- Each return goes by the law of the bytes that its tests passed.
 use native.Mathlib.Omega.{arith}
-use borrow.Author.Rules.{rules}
 use borrow.Author.Tests.{le-leb, lt-leb}
 use Rattle.frame.proofs.Station.{by_bytes, first_low, first_high, one_digit, second_bad, third_bad, two_digits}
 use Rattle.frame.proofs.reader.read_station.Goals as goal

@@ -1,7 +1,6 @@
 use Prim.Native.Nat.{ℕ}
 use mathlib.Core.Path.{◌≡◌, ap, subst, sym, ◌∙◌}
 use mathlib.Core.List.{List, [], ◌∷◌, ◌++◌}
-use borrow.Author.Rules.{rules}
 use Rattle.text.specs.Put.{Put, PutAt, xor_onto}
 use Rattle.text.specs.declared.put.Cursor.{Cursor}
 use Rattle.text.proofs.Laws.{xor_append, put_at, put_then}

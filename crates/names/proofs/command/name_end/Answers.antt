@@ -1,6 +1,5 @@
 -- `three` and `four` are where the tests of the two ends were made.
 use mathlib.Core.Path.{sym, ◌∙◌}
-use borrow.Author.Rules.{rules}
 use borrow.Author.Tests.{lt-ltb, le-ltb}
 use Rattle.text.proofs.Fields.{inside}
 use Rattle.names.proofs.command.name_end.Goals as goal

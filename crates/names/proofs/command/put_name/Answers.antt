@@ -1,4 +1,3 @@
-use borrow.Author.Rules.{rules}
 use Rattle.names.specs.Command.{name_of}
 use Rattle.names.proofs.command.put_name.Goals as goal
 

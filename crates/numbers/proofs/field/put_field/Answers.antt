@@ -1,7 +1,6 @@
 -- Each kind's text is one writer's: what is asked of the area and what is written are rewritten by the kind matched.
 use mathlib.Core.Path.{◌≡◌, ap}
 use native.Mathlib.Omega.{arith}
-use borrow.Author.Rules.{rules}
 use lib.IntN.{ℤ}
 use lib.ListN.{length}
 use mir.Facts.{to_z-of_z}

@@ -1,10 +1,9 @@
-use Prim.Native.Nat.{ℕ, ◌+◌, ◌-◌, ◌≤◌, ◌<◌}
+use Prim.Native.Nat.{ℕ, ◌+◌, ◌≤◌, ◌<◌}
 use mathlib.Core.Path.{◌≡◌, ap, ◌∙◌}
 use mathlib.Core.List.{List, [], ◌∷◌, ◌++◌, map}
 use native.Mathlib.Omega.{arith}
-use borrow.Author.Rules.{rules}
 use lib.IntN.{ℤ, pos}
-use lib.ListN.{length, get_or, take, drop, length-append}
+use lib.ListN.{length, get_or, take, length-append}
 use Rattle.text.specs.Put.{Put}
 use Rattle.text.specs.declared.put.Cursor.{Cursor}
 use Rattle.text.proofs.Laws.{put_then}
@@ -23,7 +22,6 @@ use Rattle.numbers.proofs.numbers.put_numbers.Goals as goal
 -- ---- the text of the first n of vs
 
 abbrev all : Kind → ℕ → List ℤ → List ℕ
-
 all k n vs = spaced (map (field_text k) (take n vs))
 
 -- vs are the fields of the row, and n of them are the data
@@ -71,7 +69,7 @@ module _ (k : Kind) (r : Row) {vs : List ℤ} {n : ℕ} (e : vs ≡ row_fields r
 
 pub put_field-end-requires : goal.put_field-end-requires
 put_field-end-requires c =
-    rw (i32_back _ c.put_field-arg-2-1.given)
+    rw (i32_back (get_or c.fields_of-values.result 0 (pos 0)) (omega arith))
     (first_fits c.args.kind c.args.row c.fields_of-values.ensures c.count_of-count.ensures c.args.to.at _ c.requires)
 
 pub loop-i-init : goal.loop-i-init
@@ -80,11 +78,11 @@ loop-i-init c =
 
 pub put_byte-from-requires : goal.put_byte-from-requires
 put_byte-from-requires c =
-    omega (arith, next_fits c.args.kind c.args.row c.fields_of-values.ensures c.count_of-count.ensures c.requires (rw (i32_back _ c.put_field-arg-2-1.given) at c.put_field-end.ensures) c.put_field-end.auto.area c.loop-i.invariant.1 c.loop-i-test.true)
+    omega (arith, next_fits c.args.kind c.args.row c.fields_of-values.ensures c.count_of-count.ensures c.requires (rw (i32_back (get_or c.fields_of-values.result 0 (pos 0)) (omega arith)) at c.put_field-end.ensures) c.put_field-end.auto.area c.loop-i.invariant.1 c.loop-i-test.true)
 
 pub offset_bounds-values-i : goal.offset_bounds-values-i
 offset_bounds-values-i c =
-    omega (arith, inside c)
+    omega (arith, c.count_of-count.ensures, few_values c.args.kind)
 
 pub bounds-values-i : goal.bounds-values-i
 bounds-values-i c =
@@ -92,15 +90,15 @@ bounds-values-i c =
 
 pub put_field-end-requires-in-loop-i : goal.put_field-end-requires-in-loop-i
 put_field-end-requires-in-loop-i c =
-    rw (i32_back _ c.put_field-arg-in-loop-i-2-1.given)
-    (omega (arith, c.put_byte-from.ensures.next, c.put_byte-from.auto.area, next_fits c.args.kind c.args.row c.fields_of-values.ensures c.count_of-count.ensures c.requires (rw (i32_back _ c.put_field-arg-2-1.given) at c.put_field-end.ensures) c.put_field-end.auto.area c.loop-i.invariant.1 c.loop-i-test.true))
+    rw (i32_back (get_or c.fields_of-values.result c.loop-i.i (pos 0)) (omega arith))
+    (omega (arith, c.put_byte-from.ensures.next, c.put_byte-from.auto.area, next_fits c.args.kind c.args.row c.fields_of-values.ensures c.count_of-count.ensures c.requires (rw (i32_back (get_or c.fields_of-values.result 0 (pos 0)) (omega arith)) at c.put_field-end.ensures) c.put_field-end.auto.area c.loop-i.invariant.1 c.loop-i-test.true))
 
 pub loop-i-preserved : goal.loop-i-preserved
 loop-i-preserved c =
     let e = next c.args.kind c.args.row c.fields_of-values.ensures c.count_of-count.ensures c.loop-i.i c.loop-i-test.true in (
       omega arith,
       moved (32 ∷ field_text c.args.kind (get_or c.fields_of-values.result c.loop-i.i (pos 0))) (rw e at c.loop-i.invariant.1)
-          (put_then c.put_byte-from.ensures (rw (i32_back _ c.put_field-arg-in-loop-i-2-1.given) at c.put_field-end-in-loop-i.ensures))
+          (put_then c.put_byte-from.ensures (rw (i32_back (get_or c.fields_of-values.result c.loop-i.i (pos 0)) (omega arith)) at c.put_field-end-in-loop-i.ensures))
           (c.put_field-end-in-loop-i.auto.area ∙ c.put_byte-from.auto.area),
     )
 
@@ -110,4 +108,4 @@ shape_of-area c =
 
 pub returns : goal.returns
 returns c =
-    ended c.args.kind c.args.row c.fields_of-values.ensures c.count_of-count.ensures c.requires (rw (i32_back _ c.put_field-arg-2-1.given) at c.put_field-end.ensures) c.put_field-end.auto.area c.loop-i.invariant.1 c.loop-i-test.false
+    ended c.args.kind c.args.row c.fields_of-values.ensures c.count_of-count.ensures c.requires (rw (i32_back (get_or c.fields_of-values.result 0 (pos 0)) (omega arith)) at c.put_field-end.ensures) c.put_field-end.auto.area c.loop-i.invariant.1 c.loop-i-test.false

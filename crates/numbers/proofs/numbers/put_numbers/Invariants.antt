@@ -1,24 +1,13 @@
 -- The invariant: what is left of the text, written at `end` of the area as it is now and taken into its sum, gives what
 -- all of it gives.
-use Prim.Native.Nat.{ℕ, ◌+◌, ◌-◌, ◌≤◌, ◌<◌}
-use mathlib.Core.Path.{◌≡◌, ap, ◌∙◌}
-use mathlib.Core.List.{List, [], ◌∷◌, ◌++◌, map}
-use native.Mathlib.Omega.{arith}
-use borrow.Author.Rules.{rules}
-use lib.IntN.{ℤ, pos}
-use lib.ListN.{length, get_or, take, drop, length-append}
-use Rattle.text.specs.Put.{Put}
-use Rattle.text.specs.declared.put.Cursor.{Cursor}
-use Rattle.text.proofs.Laws.{put_then}
-use Rattle.text.proofs.Parts.{Left, begun, moved, done}
-use Rattle.text.proofs.Signed.{i32_back}
-use Rattle.frame.specs.Fields.{following, spaced}
+use Prim.Native.Nat.{ℕ, ◌-◌, ◌≤◌}
+use mathlib.Core.List.{List, map}
+use lib.IntN.{ℤ}
+use lib.ListN.{take, drop}
+use Rattle.text.proofs.Parts.{Left}
+use Rattle.frame.specs.Fields.{following}
 use Rattle.commands.specs.declared.table.Kind.{Kind}
-use Rattle.commands.specs.declared.request.Row.{Row}
-use Rattle.commands.specs.Request.{row_fields}
-use Rattle.numbers.specs.Ranges.{count_of}
-use Rattle.numbers.specs.Numbers.{field_text, numbers_text}
-use Rattle.numbers.proofs.Bounds.{some_value, few_values, left_at, none_left}
+use Rattle.numbers.specs.Numbers.{field_text}
 use Rattle.numbers.proofs.numbers.put_numbers.Given as goal
 
 -- from value i on

@@ -1,33 +1,28 @@
-use Prim.Native.Nat.{ℕ, zero, suc, ◌+◌, ◌-◌, ◌≤◌, ◌<◌}
-use mathlib.Core.Path.{◌≡◌, refl, sym, ap, ◌∙◌}
-use mathlib.Core.Bool.{Bool, true}
-use mathlib.Core.List.{List, [], ◌∷◌, map}
+use Prim.Native.Nat.{◌≤◌}
+use mathlib.Core.Path.{◌≡◌, refl, ap, ◌∙◌}
+use mathlib.Core.List.{List, [], ◌∷◌}
 use mathlib.Core.Option
 use mathlib.Core.Option.{Option, none, some}
 use native.Mathlib.Omega.{arith}
-use native.Mathlib.Numerals.{add-one}
 use native.Mathlib.Nat.{sub-zero}
 use borrow.Author.Rules.{rules}
 use lib.Dec.{eqb}
 use lib.IntN.{ℤ, pos}
-use lib.ListN.{length, set, drop, replicate, length-drop}
+use lib.ListN.{length, drop, length-drop}
 use lib.Seq.{sets}
-use Rattle.text.specs.Scan.{field_at, end_at}
+use Rattle.text.specs.Scan.{field_at}
 use Rattle.text.proofs.Laws.{sets_out}
 use Rattle.text.proofs.Fields.{until_within}
 use Rattle.text.proofs.Signed.{i32_back}
-use Rattle.frame.specs.Fields.{fields, Placed, offending, with_first, read_fields, reads_as}
-use Rattle.frame.proofs.Placed.{placed_texts, offending_none, offending_lack, offending_next}
-use Rattle.frame.proofs.Spaced.{left, some_left, none_left, next_left}
-use Rattle.commands.specs.declared.table.Kind.{Kind}
-use Rattle.commands.specs.declared.request.Row.{Row}
+use Rattle.frame.specs.Fields.{fields, read_fields}
+use Rattle.frame.proofs.Placed.{placed_texts}
+use Rattle.frame.proofs.Spaced.{some_left}
 use Rattle.commands.specs.Request.{row_of}
-use Rattle.text.specs.Read.{Read, value, wrong, read_at}
 use Rattle.text.proofs.Read.{was_read, was_wrong}
 use Rattle.numbers.specs.Ranges.{count_of}
-use Rattle.numbers.specs.Numbers.{read_field, numbers_at}
+use Rattle.numbers.specs.Numbers.{read_field}
 use Rattle.numbers.proofs.Bounds.{few_values}
-use Rattle.numbers.proofs.numbers.read_numbers.Invariants.{filled, one_filled, Begun}
+use Rattle.numbers.proofs.numbers.read_numbers.Invariants.{filled, form, answer, lacking, unread, read, too_many, all_read}
 use Rattle.numbers.proofs.numbers.read_numbers.Goals as goal
 
 abbrev zeros : List ℤ
@@ -60,7 +55,7 @@ returns-then-s-next c =
 
 pub offset_bounds-values-i : goal.offset_bounds-values-i
 offset_bounds-values-i c =
-    omega (arith, array-set-from-values c)
+    omega (arith, c.count_of-count.ensures, few_values c.args.kind)
 
 pub bounds-values-i : goal.bounds-values-i
 bounds-values-i c =
@@ -78,7 +73,7 @@ loop-i-preserved c =
       most = omega arith;
       rest =
           read c.loop-i.invariant c.loop-i-test.true c.if-s-next.false w
-          ∙ rw (i32_back c.in-Value.v c.known_told-1.given.0.1, c.read_field-read.ensures.end_value _ c.in-Value.is);
+          ∙ rw (i32_back c.in-Value.v (omega arith), c.read_field-read.ensures.end_value _ c.in-Value.is);
     }
 
 pub returns-in-Malformed : goal.returns-in-Malformed

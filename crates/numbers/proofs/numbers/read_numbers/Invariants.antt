@@ -1,41 +1,29 @@
 -- The invariant: the fields that are left, read into the array as it is now from value i on, give what all of them give.
 use Prim.Native.Nat.{ℕ, zero, suc, ◌+◌, ◌-◌, ◌≤◌, ◌<◌}
-use mathlib.Core.Path.{◌≡◌, refl, sym, ap, ◌∙◌}
+use mathlib.Core.Path.{◌≡◌, refl, sym, ◌∙◌}
 use mathlib.Core.Bool.{Bool, true}
 use mathlib.Core.List.{List, [], ◌∷◌, map}
-use mathlib.Core.Option
 use mathlib.Core.Option.{Option, none, some}
 use native.Mathlib.Omega.{arith}
 use native.Mathlib.Numerals.{add-one}
-use native.Mathlib.Nat.{sub-zero}
-use borrow.Author.Rules.{rules}
-use lib.Dec.{eqb}
-use lib.IntN.{ℤ, pos}
-use lib.ListN.{length, set, drop, replicate, length-drop}
+use lib.IntN.{ℤ}
+use lib.ListN.{length, set, replicate}
 use lib.Seq.{sets}
 use Rattle.text.specs.Scan.{field_at, end_at}
-use Rattle.text.proofs.Laws.{sets_out}
-use Rattle.text.proofs.Fields.{until_within}
-use Rattle.text.proofs.Signed.{i32_back}
-use Rattle.frame.specs.Fields.{fields, Placed, offending, with_first, read_fields, reads_as}
-use Rattle.frame.proofs.Placed.{placed_texts, offending_none, offending_lack, offending_next}
-use Rattle.frame.proofs.Spaced.{left, some_left, none_left, next_left}
+use Rattle.frame.specs.Fields.{Placed, offending, with_first, read_fields, reads_as}
+use Rattle.frame.proofs.Placed.{offending_none, offending_lack, offending_next}
+use Rattle.frame.proofs.Spaced.{left, none_left, next_left}
 use Rattle.commands.specs.declared.table.Kind.{Kind}
 use Rattle.commands.specs.declared.request.Row.{Row}
 use Rattle.commands.specs.Request.{row_of}
 use Rattle.text.specs.Read.{Read, value, wrong, read_at}
-use Rattle.text.proofs.Read.{was_read, was_wrong}
-use Rattle.numbers.specs.Ranges.{count_of}
 use Rattle.numbers.specs.Numbers.{read_field, numbers_at}
-use Rattle.numbers.proofs.Bounds.{few_values}
 use Rattle.numbers.proofs.numbers.read_numbers.Given as goal
 
 -- ---- values read into an array from index i on
 
-pub filled : List ℤ → ℕ → Option (List ℤ) → Option Row
-
+unfoldable pub filled : List ℤ → ℕ → Option (List ℤ) → Option Row
 filled xs i (some vs) = some (row_of (sets xs i vs))
-
 filled xs i none = none
 
 pub one_filled : (xs : List ℤ) (i : ℕ) (v : ℤ) (o : Option (List ℤ)) → filled xs i (with_first (some v) o) ≡ filled (set xs i v) (i + 1) o
@@ -46,10 +34,10 @@ one_filled xs i v none = refl
 -- ---- the answer for m values that are still to be read, into xs from index i on
 
 module _ (etx : ℕ) (k : Kind) where
-  form : List ℕ → Bool
+  unfoldable pub form : List ℕ → Bool
   form f = reads_as (λ v. true) (read_field k f)
 
-  answer : List ℤ → ℕ → ℕ → List Placed → Read Row
+  unfoldable pub answer : List ℤ → ℕ → ℕ → List Placed → Read Row
   answer xs i m fs = read_at (offending etx (replicate m form) fs) (filled xs i (read_fields (read_field k) m (map (λ f. f.text) fs)))
 
   module _ (xs : List ℤ) (i : ℕ) where
@@ -78,8 +66,8 @@ module _ (etx : ℕ) (k : Kind) where
 
 -- of n values i are read into xs, and the next field starts at p
 pub record Begun (k : Kind) (s : List ℕ) (from n : ℕ) (xs : List ℤ) (i p : ℕ) : Type 0 where
-  most : i ≤ n
-  rest : numbers_at k s from ≡ answer (length s) k xs i (n - i) (left s p)
+  pub most : i ≤ n
+  pub rest : numbers_at k s from ≡ answer (length s) k xs i (n - i) (left s p)
 
 module _ {k : Kind} {s : List ℕ} {from n : ℕ} {xs : List ℤ} {i p : ℕ} (h : Begun k s from n xs i p) where
   -- the next field
@@ -90,15 +78,15 @@ module _ {k : Kind} {s : List ℕ} {from n : ℕ} {xs : List ℤ} {i p : ℕ} (h
     again : numbers_at k s from ≡ answer (length s) k xs i (suc (n - (i + 1))) (left s p)
     again = let e : n - i ≡ suc (n - (i + 1)) = omega arith in h.rest ∙ rw e
 
-    lacking : length s < p → wrong (length s) ≡ numbers_at k s from
+    pub lacking : length s < p → wrong (length s) ≡ numbers_at k s from
     lacking m = sym (again ∙ rw (none_left s p m) (lack (length s) k xs i (n - (i + 1))))
 
     module _ (m : p ≤ length s) where
-      unread : read_field k (field_at s p) ≡ none → wrong p ≡ numbers_at k s from
+      pub unread : read_field k (field_at s p) ≡ none → wrong p ≡ numbers_at k s from
       unfolding next
       unread e = sym (again ∙ rw (next_left s p m) (malformed (length s) k xs i (n - (i + 1)) next (left s (end_at s p + 1)) e))
 
-      read : {v : ℤ} → read_field k (field_at s p) ≡ some v → numbers_at k s from ≡ answer (length s) k (set xs i v) (i + 1) (n - (i + 1)) (left s (end_at s p + 1))
+      pub read : {v : ℤ} → read_field k (field_at s p) ≡ some v → numbers_at k s from ≡ answer (length s) k (set xs i v) (i + 1) (n - (i + 1)) (left s (end_at s p + 1))
       unfolding next
       read e = again ∙ rw (next_left s p m) (valued (length s) k xs i (n - (i + 1)) next (left s (end_at s p + 1)) e)
 
@@ -106,11 +94,11 @@ module _ {k : Kind} {s : List ℕ} {from n : ℕ} {xs : List ℤ} {i p : ℕ} (h
     done : numbers_at k s from ≡ answer (length s) k xs i 0 (left s p)
     done = let e : n - i ≡ 0 = omega arith in h.rest ∙ rw e
 
-    too_many : p ≤ length s → wrong p ≡ numbers_at k s from
+    pub too_many : p ≤ length s → wrong p ≡ numbers_at k s from
     unfolding next
     too_many m = sym (done ∙ rw (next_left s p m) (surplus (length s) k xs i next (left s (end_at s p + 1))))
 
-    all_read : length s < p → value (row_of xs) ≡ numbers_at k s from
+    pub all_read : length s < p → value (row_of xs) ≡ numbers_at k s from
     all_read m = sym (done ∙ rw (none_left s p m) (complete (length s) k xs i))
 
 abbrev pub invariant-loop-i : goal.invariant-loop-i

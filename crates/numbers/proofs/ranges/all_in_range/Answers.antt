@@ -1,9 +1,8 @@
-use Prim.Native.Nat.{ℕ, ◌+◌, ◌-◌, ◌≤◌, ◌<◌}
+use Prim.Native.Nat.{ℕ, ◌+◌, ◌≤◌, ◌<◌}
 use mathlib.Core.Path.{◌≡◌, refl, sym, ap, ◌∙◌}
 use mathlib.Core.Bool.{Bool, ◌&&◌}
 use mathlib.Core.List.{List}
 use native.Mathlib.Omega.{arith}
-use borrow.Author.Rules.{rules}
 use lib.IntN.{ℤ, pos}
 use lib.ListN.{length, get_or, take, drop}
 use lib.Signed.{mag}
@@ -45,20 +44,19 @@ bounds-values-i c =
     omega (arith, c.count_of-count.ensures, few_values c.args.kind)
 
 pub loop-i-preserved : goal.loop-i-preserved
-loop-i-preserved c =
-    (
-      omega arith,
-      c.loop-i.invariant.1
-          ∙ here c.args.kind c.args.row c.fields_of-values.ensures c.count_of-count.ensures c.loop-i.i c.in_range.ensures c.in_range-arg-1.given c.loop-i-test.true
-          ∙ rw c.if-in_range.true,
-    )
+loop-i-preserved c = (
+  omega arith,
+  c.loop-i.invariant.1
+      ∙ here c.args.kind c.args.row c.fields_of-values.ensures c.count_of-count.ensures c.loop-i.i c.in_range.ensures (omega arith) c.loop-i-test.true
+      ∙ rw c.if-in_range.true,
+)
 
 pub returns-else-in_range : goal.returns-else-in_range
 returns-else-in_range c =
     sym
     (sym (all c.args.kind c.args.row c.fields_of-values.ensures c.count_of-count.ensures)
     ∙ c.loop-i.invariant.1
-    ∙ here c.args.kind c.args.row c.fields_of-values.ensures c.count_of-count.ensures c.loop-i.i c.in_range.ensures c.in_range-arg-1.given c.loop-i-test.true
+    ∙ here c.args.kind c.args.row c.fields_of-values.ensures c.count_of-count.ensures c.loop-i.i c.in_range.ensures (omega arith) c.loop-i-test.true
     ∙ rw c.if-in_range.false)
 
 pub returns : goal.returns

@@ -1,21 +1,8 @@
 -- The invariant: the values that are left are in range where all are.
-use Prim.Native.Nat.{ℕ, ◌+◌, ◌-◌, ◌≤◌, ◌<◌}
-use mathlib.Core.Path.{◌≡◌, refl, sym, ap, ◌∙◌}
-use mathlib.Core.Bool.{Bool, ◌&&◌}
-use mathlib.Core.List.{List}
-use native.Mathlib.Omega.{arith}
-use borrow.Author.Rules.{rules}
-use lib.IntN.{ℤ, pos}
-use lib.ListN.{length, get_or, take, drop}
-use lib.Signed.{mag}
-use mir.Syntax.{w32}
-use mir.Val.{to_z, of_z}
-use Rattle.text.proofs.Signed.{i32_back}
-use Rattle.commands.specs.declared.table.Kind.{Kind}
-use Rattle.commands.specs.declared.request.Row.{Row}
-use Rattle.commands.specs.Request.{row_fields}
-use Rattle.numbers.specs.Ranges.{count_of, in_range, each_in_range, all_in_range}
-use Rattle.numbers.proofs.Bounds.{few_values, left_at, none_left}
+use Prim.Native.Nat.{◌-◌, ◌≤◌}
+use mathlib.Core.Path.{◌≡◌}
+use lib.ListN.{take, drop}
+use Rattle.numbers.specs.Ranges.{each_in_range}
 use Rattle.numbers.proofs.ranges.all_in_range.Given as goal
 
 abbrev pub invariant-loop-i : goal.invariant-loop-i

@@ -1,4 +1,3 @@
-use borrow.Author.Rules.{rules}
 use Rattle.numbers.proofs.ranges.limits_of.Goals as goal
 
 pub returns-in-Timer : goal.returns-in-Timer

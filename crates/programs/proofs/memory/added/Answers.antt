@@ -1,5 +1,4 @@
 use mathlib.Core.Path.{sym}
-use borrow.Author.Rules.{rules}
 use Rattle.programs.proofs.Laws.{added_char, added_low, added_high}
 use Rattle.programs.proofs.memory.added.Goals as goal
 

@@ -1,8 +1,7 @@
-use Prim.Native.Nat.{◌-◌, ◌≤◌}
 use mathlib.Core.Path.{◌≡◌, refl, sym, ◌∙◌}
 use native.Mathlib.Omega.{arith}
 use native.Mathlib.Numerals.{add-one}
-use lib.ListN.{length, length-set, take, replicate}
+use lib.ListN.{length, length-set}
 use lib.Seq.{take-suc-set, take_all}
 use Rattle.programs.proofs.Laws.{zeros_more}
 use Rattle.programs.proofs.memory.clear.Goals as goal

@@ -1,10 +1,6 @@
 use Prim.Native.Nat.{◌-◌, ◌≤◌}
-use mathlib.Core.Path.{◌≡◌, refl, sym, ◌∙◌}
-use native.Mathlib.Omega.{arith}
-use native.Mathlib.Numerals.{add-one}
-use lib.ListN.{length, length-set, take, replicate}
-use lib.Seq.{take-suc-set, take_all}
-use Rattle.programs.proofs.Laws.{zeros_more}
+use mathlib.Core.Path.{◌≡◌}
+use lib.ListN.{length, take, replicate}
 use Rattle.programs.proofs.memory.clear.Given as goal
 
 abbrev pub invariant-loop-i : goal.invariant-loop-i

@@ -1,6 +1,5 @@
 -- `t1` to `t5` are where each text was read.
 use mathlib.Core.Path.{sym}
-use borrow.Author.Rules.{rules}
 use Rattle.programs.proofs.Typed.{load_empty, load_found}
 use Rattle.programs.proofs.memory.load_step.Goals as goal
 

@@ -1,11 +1,9 @@
-use Prim.Native.Nat.{ℕ, ◌+◌}
+use Prim.Native.Nat.{ℕ}
 use mathlib.Core.Path.{◌≡◌, refl, sym, ap, ◌∙◌}
 use native.Mathlib.Omega.{arith}
 use native.Mathlib.Numerals.{add-one}
-use borrow.Author.Rules.{rules}
-use lib.ListN.{length, length-set}
-use lib.Seq.{sets}
-use Rattle.programs.specs.Memory.{bytes_in, bytes_of}
+use lib.ListN.{length-set}
+use Rattle.programs.specs.Memory.{bytes_in}
 use Rattle.programs.proofs.Laws.{bytes_none, bytes_more, bytes_length}
 use Rattle.programs.proofs.memory.put_packed.Goals as goal
 

@@ -1,12 +1,8 @@
-use Prim.Native.Nat.{ℕ, ◌+◌}
-use mathlib.Core.Path.{◌≡◌, refl, sym, ap, ◌∙◌}
-use native.Mathlib.Omega.{arith}
-use native.Mathlib.Numerals.{add-one}
-use borrow.Author.Rules.{rules}
-use lib.ListN.{length, length-set}
+use Prim.Native.Nat.{◌+◌}
+use mathlib.Core.Path.{◌≡◌}
+use lib.ListN.{length}
 use lib.Seq.{sets}
 use Rattle.programs.specs.Memory.{bytes_in, bytes_of}
-use Rattle.programs.proofs.Laws.{bytes_none, bytes_more, bytes_length}
 use Rattle.programs.proofs.memory.put_packed.Given as goal
 
 abbrev pub invariant-loop-left : goal.invariant-loop-left

@@ -1,6 +1,5 @@
 -- `p1` to `p5` are where each text was put.
 use native.Mathlib.Omega.{arith}
-use borrow.Author.Rules.{rules}
 use Rattle.text.proofs.Laws.{put_at_then}
 use Rattle.programs.specs.Memory.{step_bytes, stored}
 use Rattle.programs.proofs.Laws.{eight}

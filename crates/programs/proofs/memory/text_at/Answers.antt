@@ -1,8 +1,7 @@
-use Prim.Native.Nat.{ℕ, suc, ◌+◌, ◌-◌, ◌≤◌}
+use Prim.Native.Nat.{ℕ, suc, ◌+◌, ◌-◌}
 use mathlib.Core.Path.{◌≡◌, sym, ◌∙◌}
 use native.Mathlib.Omega.{arith}
-use Rattle.steps.specs.Text.{pack}
-use Rattle.programs.specs.Memory.{chars_at, packed_at}
+use Rattle.programs.specs.Memory.{packed_at}
 use Rattle.programs.proofs.Laws.{pack_at_none, pack_at_more, pack_at_small}
 use Rattle.programs.proofs.memory.text_at.Goals as goal
 

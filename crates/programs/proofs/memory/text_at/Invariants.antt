@@ -1,9 +1,7 @@
-use Prim.Native.Nat.{ℕ, suc, ◌+◌, ◌-◌, ◌≤◌}
-use mathlib.Core.Path.{◌≡◌, sym, ◌∙◌}
-use native.Mathlib.Omega.{arith}
+use Prim.Native.Nat.{◌+◌, ◌-◌, ◌≤◌}
+use mathlib.Core.Path.{◌≡◌}
 use Rattle.steps.specs.Text.{pack}
-use Rattle.programs.specs.Memory.{chars_at, packed_at}
-use Rattle.programs.proofs.Laws.{pack_at_none, pack_at_more, pack_at_small}
+use Rattle.programs.specs.Memory.{chars_at}
 use Rattle.programs.proofs.memory.text_at.Given as goal
 
 abbrev pub invariant-loop-left : goal.invariant-loop-left

@@ -1,5 +1,4 @@
 use mathlib.Core.Path.{sym}
-use borrow.Author.Rules.{rules}
 use Rattle.receiver.proofs.Steps.{ended_none, ended_some}
 use Rattle.receiver.proofs.receive.at_end.Goals as goal
 

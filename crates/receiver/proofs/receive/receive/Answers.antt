@@ -1,4 +1,3 @@
-use borrow.Author.Rules.{rules}
 use Rattle.receiver.proofs.Steps.{no_room_lem, with_room}
 use Rattle.receiver.proofs.receive.receive.Goals as goal
 

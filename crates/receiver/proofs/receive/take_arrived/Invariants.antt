@@ -1,13 +1,8 @@
 use Prim.Native.Nat.{◌-◌, ◌≤◌, ◌<◌}
-use mathlib.Core.Path.{◌≡◌, refl, sym, ap, ◌∙◌}
-use native.Mathlib.Omega.{arith}
-use borrow.Author.Rules.{rules}
+use mathlib.Core.Path.{◌≡◌}
 use lib.ListN.{length, take, drop}
-use lib.Seq.{length-take-le}
-use Rattle.text.specs.Put.{PutAt}
-use Rattle.text.proofs.Laws.{put_at}
 use Rattle.receiver.specs.Receive.{taken}
-use Rattle.receiver.proofs.Steps.{Going, at_start, go_on, stop, run_out, with_slice, without_slice}
+use Rattle.receiver.proofs.Steps.{Going}
 use Rattle.receiver.proofs.receive.take_arrived.Given as goal
 
 abbrev pub invariant-loop-i : goal.invariant-loop-i

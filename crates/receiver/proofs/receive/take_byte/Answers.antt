@@ -1,5 +1,4 @@
 use mathlib.Core.Path.{sym, ◌∙◌}
-use borrow.Author.Rules.{rules}
 use Rattle.receiver.proofs.Steps.{step_finished, step_begun, step_noise, step_added, step_dropped}
 use Rattle.receiver.proofs.receive.take_byte.Goals as goal
 

@@ -1,4 +1,3 @@
-use borrow.Author.Rules.{rules}
 use borrow.Author.Tests.{eq-eqb, ne_eqb}
 use Rattle.steps.specs.Step.{is_datum}
 use Rattle.steps.proofs.step.is_datum.Goals as goal

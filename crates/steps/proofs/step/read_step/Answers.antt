@@ -1,30 +1,14 @@
-use Prim.Native.Nat.{ℕ, suc, ◌+◌, ◌-◌, ◌≤◌, ◌<◌}
-use mathlib.Core.Path.{◌≡◌, refl, sym, ap, ◌∙◌}
-use mathlib.Core.Bool.{Bool, true, false, cond}
-use mathlib.Core.List.{List, [], ◌∷◌, map}
-use mathlib.Core.Option
-use mathlib.Core.Option.{Option, none, some}
+use Prim.Native.Nat.{◌≤◌}
 use native.Mathlib.Omega.{arith}
-use native.Mathlib.Numerals.{add-one}
-use borrow.Author.Tests.{le-leb, lt-leb}
 use borrow.Author.Rules.{rules}
 use lib.Arith.{lt_of_le-ne}
-use lib.Dec.{leb, eqb, leb-suc-suc}
-use lib.ListN.{length, set, drop, replicate, length-drop}
-use lib.Seq.{sets}
-use Rattle.text.specs.Scan.{field_at, end_at}
-use Rattle.text.proofs.Laws.{sets_out}
+use lib.Dec.{eqb}
+use lib.ListN.{length, drop, length-drop}
 use Rattle.text.proofs.Fields.{until_within}
-use Rattle.frame.specs.Fields.{fields, Placed, with_first, read_fields, reads_as, offending}
-use Rattle.frame.proofs.Placed.{placed_texts, offending_none, offending_next}
-use Rattle.frame.proofs.Spaced.{left, some_left, none_left, next_left}
-use Rattle.steps.specs.declared.texts.Text.{Text}
-use Rattle.steps.specs.declared.step.Step.{Step}
-use Rattle.text.specs.Read.{Read, value, wrong, read_at}
+use Rattle.frame.proofs.Placed.{placed_texts}
+use Rattle.frame.proofs.Spaced.{some_left}
 use Rattle.text.proofs.Read.{was_read, was_wrong}
-use Rattle.steps.specs.Text.{read_text}
-use Rattle.steps.specs.Step.{step_from, read_step, step_in}
-use Rattle.steps.proofs.step.read_step.Invariants.{few, few_none, few_surplus, few_next, filled, zeros, step_filled, all_filled, one_filled, step_read, Begun}
+use Rattle.steps.proofs.step.read_step.Invariants.{step_read, form, answer, all_read, too_many, unread, read}
 use Rattle.steps.proofs.step.read_step.Goals as goal
 
 pub loop-next-init : goal.loop-next-init
@@ -39,10 +23,6 @@ pub returns-then-i-eq5 : goal.returns-then-i-eq5
 returns-then-i-eq5 c =
     too_many c.loop-next.invariant c.loop-next-test.true c.if-i-eq5.true
 
-pub offset_bounds-texts-i : goal.offset_bounds-texts-i
-offset_bounds-texts-i c =
-    omega (arith, within c)
-
 pub bounds-texts-i : goal.bounds-texts-i
 bounds-texts-i c =
     lt_of_le-ne c.loop-next.invariant.most c.if-i-eq5.false
@@ -54,7 +34,7 @@ overflow_add-next c =
 
 pub loop-next-smaller : goal.loop-next-smaller
 loop-next-smaller c =
-    omega (arith, within c)
+    omega (arith, lt_of_le-ne c.loop-next.invariant.most c.if-i-eq5.false)
 
 pub loop-next-preserved : goal.loop-next-preserved
 loop-next-preserved c =
@@ -68,4 +48,4 @@ returns-in-Malformed c =
 
 pub returns : goal.returns
 returns c =
-    rw c.step_of_lem.ensures (all_read c.loop-next.invariant c.loop-next-test.false)
+    rw c.step_of.ensures (all_read c.loop-next.invariant c.loop-next-test.false)

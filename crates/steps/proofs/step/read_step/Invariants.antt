@@ -8,21 +8,18 @@ use mathlib.Core.Option.{Option, none, some}
 use native.Mathlib.Omega.{arith}
 use native.Mathlib.Numerals.{add-one}
 use borrow.Author.Tests.{le-leb, lt-leb}
-use borrow.Author.Rules.{rules}
 use lib.Arith.{lt_of_le-ne}
-use lib.Dec.{leb, eqb, leb-suc-suc}
-use lib.ListN.{length, set, drop, replicate, length-drop}
+use lib.Dec.{leb, leb-suc-suc}
+use lib.ListN.{length, set, replicate}
 use lib.Seq.{sets}
 use Rattle.text.specs.Scan.{field_at, end_at}
 use Rattle.text.proofs.Laws.{sets_out}
-use Rattle.text.proofs.Fields.{until_within}
 use Rattle.frame.specs.Fields.{fields, Placed, with_first, read_fields, reads_as, offending}
-use Rattle.frame.proofs.Placed.{placed_texts, offending_none, offending_next}
-use Rattle.frame.proofs.Spaced.{left, some_left, none_left, next_left}
+use Rattle.frame.proofs.Placed.{offending_none, offending_next}
+use Rattle.frame.proofs.Spaced.{left, none_left, next_left}
 use Rattle.steps.specs.declared.texts.Text.{Text}
 use Rattle.steps.specs.declared.step.Step.{Step}
 use Rattle.text.specs.Read.{Read, value, wrong, read_at}
-use Rattle.text.proofs.Read.{was_read, was_wrong}
 use Rattle.steps.specs.Text.{read_text}
 use Rattle.steps.specs.Step.{step_from, read_step, step_in}
 use Rattle.steps.proofs.step.read_step.Given as goal
@@ -30,7 +27,6 @@ use Rattle.steps.proofs.step.read_step.Given as goal
 -- ---- at most m fields, each a text
 
 pub few : ℕ → List (List ℕ) → Option (List Text)
-
 few m fs = cond (leb (length fs) m) (read_fields read_text (length fs) fs) none
 
 pub few_none : (m : ℕ) → few m [] ≡ some []
@@ -56,9 +52,7 @@ few_next m f fs = rw (leb-suc-suc (length fs) m) (go (leb (length fs) m) (read_t
 -- ---- texts read into an array from index i on
 
 pub filled : List ℕ → ℕ → Option (List Text) → Option Step
-
 filled xs i (some ts) = some (step_from (sets xs i (map (λ t. t.0) ts)))
-
 filled xs i none = none
 
 abbrev pub zeros : List ℕ
@@ -97,10 +91,10 @@ step_read s = rw (le-leb 1 (length (fields s)) (omega arith)) (go (leb (length (
 -- ---- the answer for at most m texts that are still to be read, into xs from index i on
 
 module _ (etx : ℕ) where
-  form : List ℕ → Bool
+  unfoldable pub form : List ℕ → Bool
   form f = reads_as (λ t. true) (read_text f)
 
-  answer : List ℕ → ℕ → ℕ → List Placed → Read Step
+  unfoldable pub answer : List ℕ → ℕ → ℕ → List Placed → Read Step
   answer xs i m fs = read_at (offending etx (replicate m form) fs) (filled xs i (few m (map (λ f. f.text) fs)))
 
   module _ (xs : List ℕ) (i : ℕ) where
@@ -126,11 +120,11 @@ module _ (etx : ℕ) where
 
 -- of five texts i are read into xs, and the next field starts at p
 pub record Begun (s : List ℕ) (from : ℕ) (xs : List ℕ) (i p : ℕ) : Type 0 where
-  most : i ≤ 5
-  rest : step_in s from ≡ answer (length s) xs i (5 - i) (left s p)
+  pub most : i ≤ 5
+  pub rest : step_in s from ≡ answer (length s) xs i (5 - i) (left s p)
 
 module _ {s : List ℕ} {from : ℕ} {xs : List ℕ} {i p : ℕ} (h : Begun s from xs i p) where
-  all_read : length s < p → value (step_from xs) ≡ step_in s from
+  pub all_read : length s < p → value (step_from xs) ≡ step_in s from
   all_read l = sym (h.rest ∙ rw (none_left s p l) (complete (length s) xs i (5 - i)))
 
   module _ (l : p ≤ length s) where
@@ -138,7 +132,7 @@ module _ {s : List ℕ} {from : ℕ} {xs : List ℕ} {i p : ℕ} (h : Begun s fr
     next : Placed
     next = record { position = p; text = field_at s p }
 
-    too_many : i ≡ 5 → wrong p ≡ step_in s from
+    pub too_many : i ≡ 5 → wrong p ≡ step_in s from
     unfolding next
     too_many e =
         let z : 5 - i ≡ 0 = omega arith in
@@ -152,11 +146,11 @@ module _ {s : List ℕ} {from : ℕ} {xs : List ℕ} {i p : ℕ} (h : Begun s fr
           let e : 5 - i ≡ suc (5 - (i + 1)) = omega arith in
           h.rest ∙ rw (e, next_left s p l)
 
-      unread : read_text (field_at s p) ≡ none → wrong p ≡ step_in s from
+      pub unread : read_text (field_at s p) ≡ none → wrong p ≡ step_in s from
       unfolding next
       unread e = sym (again ∙ malformed (length s) xs i (5 - (i + 1)) next (left s (end_at s p + 1)) e)
 
-      read : {t : Text} → read_text (field_at s p) ≡ some t → Begun s from (set xs i t.0) (i + 1) (end_at s p + 1)
+      pub read : {t : Text} → read_text (field_at s p) ≡ some t → Begun s from (set xs i t.0) (i + 1) (end_at s p + 1)
       unfolding next
       read e = record {
         most = omega (arith, lt_of_le-ne h.most n);

@@ -1,9 +1,7 @@
 -- The invariant: what is left of the number, with at most `left` characters, is judged as all of it is with 8.
-use Prim.Native.Nat.{ℕ, ◌≤◌}
-use mathlib.Core.Path.{◌≡◌, refl, sym, ap, ◌∙◌}
-use native.Mathlib.Omega.{arith}
+use Prim.Native.Nat.{◌≤◌}
+use mathlib.Core.Path.{◌≡◌}
 use Rattle.steps.specs.Text.{only_chars}
-use Rattle.steps.proofs.Laws.{char, low, high, only_none, only_zero, only_stop, only_more, text_none, text_some}
 use Rattle.steps.proofs.texts.is_text.Given as goal
 
 abbrev pub invariant-loop-left : goal.invariant-loop-left

@@ -2,10 +2,9 @@ use Prim.Native.Nat.{ℕ, ◌%◌}
 use mathlib.Core.Path.{◌≡◌, ap, ◌∙◌}
 use mathlib.Core.List.{[], ◌∷◌}
 use native.Mathlib.Omega.{arith}
-use borrow.Author.Rules.{rules}
 use lib.ListN.{length, length-set}
-use Rattle.text.proofs.Parts.{Left, begun, moved, done, put_one}
-use Rattle.steps.specs.Text.{chars_in, chars_of}
+use Rattle.text.proofs.Parts.{begun, moved, done, put_one}
+use Rattle.steps.specs.Text.{chars_in}
 use Rattle.steps.proofs.Laws.{char, low, high, chars_none, chars_stop, chars_more}
 use Rattle.steps.proofs.texts.put_text.Goals as goal
 

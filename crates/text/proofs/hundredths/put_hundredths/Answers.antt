@@ -1,10 +1,7 @@
--- `p` is where the digits were put, `b` where the sign was, `z` where the sign was left off, and `s` where the function
--- starts.
 use mathlib.Core.Path.{◌≡◌, refl, ap, ◌∙◌}
 use mathlib.Core.Bool.{Bool, true, false}
 use mathlib.Core.List.{◌++◌}
 use native.Mathlib.Omega.{arith}
-use borrow.Author.Rules.{rules}
 use lib.IntN.{ℤ, pos, nat_abs}
 use lib.ListN.{length, length-append}
 use lib.Signed.{lt_z}

@@ -1,5 +1,4 @@
 use native.Mathlib.Omega.{arith}
-use borrow.Author.Rules.{rules}
 use Rattle.text.specs.Hundredths.{magnitude_text}
 use Rattle.text.proofs.Laws.{put_then}
 use Rattle.text.proofs.Decimals.{magnitude_length}

@@ -1,5 +1,4 @@
 use native.Mathlib.Omega.{arith}
-use borrow.Author.Rules.{rules}
 use Rattle.text.specs.Hundredths.{sign}
 use Rattle.text.proofs.Laws.{put_none}
 use Rattle.text.proofs.hundredths.put_sign.Goals as goal

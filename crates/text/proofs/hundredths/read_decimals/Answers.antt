@@ -1,8 +1,6 @@
--- `r` is where the field was read, `w` the number that it is, and `s` where the function starts.
 use Prim.Native.Nat.{ℕ, ◌^◌, ◌<◌}
 use mathlib.Core.Path.{◌≡◌, refl, sym, ap, subst}
 use native.Mathlib.Omega.{arith}
-use borrow.Author.Rules.{rules}
 use lib.ListN.{length, drop}
 use Rattle.text.specs.Read.{read_at}
 use Rattle.text.specs.Scan.{field_at}
@@ -41,5 +39,5 @@ returns-then-end-from-2 c =
 pub returns : goal.returns
 returns c =
     let end = c.read_whole-read.ensures.by_index _ c.in-Value.is in
-    let l = part_length 32 refl (drop c.args.from c.args.s.now) in 
+    let l = part_length 32 refl (drop c.args.from c.args.s.now) in
     record { whole_value = ap (read_at c.args.from) (sym (decimals_more (field_at c.args.s.now c.args.from) (was_read _ _ (rw c.in-Value.is at c.read_whole-read.ensures.whole_value)) (λ z. c.if-end-from.false (omega (arith, z, l, end))) (λ z. c.if-end-from-2.false (omega (arith, z, l, end))))); by_index = λ v e. no_whole e }

@@ -1,9 +1,6 @@
--- `r` is where the magnitude was read, and `a` where the digits start.
 use Prim.Native.Nat.{ℕ}
 use mathlib.Core.Path.{◌≡◌, refl, sym, ap, subst, ◌∙◌}
 use mathlib.Core.Bool.{Bool, true, false, not}
-use native.Mathlib.Omega.{arith}
-use borrow.Author.Rules.{rules}
 use lib.Dec.{eqb}
 use lib.IntN.{ℤ}
 use Rattle.text.specs.Hundredths.{Small, signed, hundredths_answer}
@@ -27,5 +24,5 @@ with_sign-requires c =
 
 pub returns : goal.returns
 returns c =
-    let minus = not (eqb c.after_sign-start.result c.args.from) in 
+    let minus = not (eqb c.after_sign-start.result c.args.from) in
     record { hundredths_value = c.with_sign.ensures ∙ ap (read_at c.args.from) (ap (signed minus) c.read_magnitude-read.ensures.magnitude_value ∙ sym c.after_sign-start.ensures.from_value); end_value = λ v e. to_end minus c.read_magnitude-read.result.magnitude c.args.from (sym c.with_sign.ensures ∙ ap hundredths_answer e) (λ m q. c.read_magnitude-read.ensures.by_index m q ∙ c.after_sign-start.ensures.result_value.0) }

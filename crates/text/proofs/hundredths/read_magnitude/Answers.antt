@@ -1,9 +1,6 @@
--- `d` is where the digits were read, `e` where their end was tested, `r` where the decimals were read, and `s` where the
--- function starts.
 use mathlib.Core.Path.{sym, ap, ◌∙◌}
 use mathlib.Core.Option.{some}
 use native.Mathlib.Omega.{arith}
-use borrow.Author.Rules.{rules}
 use Prim.Native.Nat.{ℕ, ◌+◌, ◌*◌}
 use Rattle.text.specs.Scan.{field_at}
 use Rattle.text.specs.Hundredths.{joined, decimals}
@@ -27,7 +24,7 @@ bounds-s-point c =
 
 pub returns-then-s-point-ne46 : goal.returns-then-s-point-ne46
 returns-then-s-point-ne46 c =
-    record { magnitude_value = sym (field_other c.args.s.now c.args.from c.read_digits-digits.result.end c.read_digits-digits.ensures.end_value.0 c.read_digits-digits.ensures.end_in_bounds.0 (sym c.if-is_end.false ∙ c.is_end.ensures) c.if-s-point-ne46.true); by_index = λ m e. no_magnitude c }
+    record { magnitude_value = sym (field_other c.args.s.now c.args.from c.read_digits-digits.result.end c.read_digits-digits.ensures.end_value.0 c.read_digits-digits.ensures.end_in_bounds.0 (sym c.if-is_end.false ∙ c.is_end.ensures) c.if-s-point-ne46.true); by_index = λ m e. no_magnitude e }
 
 pub read_decimals-decimals-requires : goal.read_decimals-decimals-requires
 read_decimals-decimals-requires c =
@@ -35,10 +32,10 @@ read_decimals-decimals-requires c =
 
 pub returns-in-Value : goal.returns-in-Value
 returns-in-Value c =
-    let p = field_point c.args.s.now c.args.from c.read_digits-digits.result.end c.read_digits-digits.ensures.end_value.0 c.read_digits-digits.ensures.end_in_bounds.0 (sym c.if-is_end.false ∙ c.is_end.ensures) c.if-point-from.false c.if-s-point-ne46.false in 
+    let p = field_point c.args.s.now c.args.from c.read_digits-digits.result.end c.read_digits-digits.ensures.end_value.0 c.read_digits-digits.ensures.end_in_bounds.0 (sym c.if-is_end.false ∙ c.is_end.ensures) c.if-point-from.false c.if-s-point-ne46.false in
     record { magnitude_value = ap (λ (v : ℕ). joined (some v) (some c.in-Value.cents)) c.read_digits-digits.ensures.end_value.1 ∙ ap (joined (some _)) (sym (was_read _ (decimals (field_at c.args.s.now (c.read_digits-digits.result.end + 1))) (rw c.in-Value.is at c.read_decimals-decimals.ensures.whole_value))) ∙ sym p.0; by_index = λ m _. c.read_decimals-decimals.ensures.by_index _ c.in-Value.is ∙ p.1 }
 
 pub returns-in-Malformed : goal.returns-in-Malformed
 returns-in-Malformed c =
     let p = field_point c.args.s.now c.args.from c.read_digits-digits.result.end c.read_digits-digits.ensures.end_value.0 c.read_digits-digits.ensures.end_in_bounds.0 (sym c.if-is_end.false ∙ c.is_end.ensures) c.if-point-from.false c.if-s-point-ne46.false in
-    record { magnitude_value = ap (joined (some _)) (sym (was_wrong _ (decimals (field_at c.args.s.now (c.read_digits-digits.result.end + 1))) (rw c.in-Malformed.is at c.read_decimals-decimals.ensures.whole_value)).0) ∙ sym p.0; by_index = λ m e. no_magnitude c }
+    record { magnitude_value = ap (joined (some _)) (sym (was_wrong _ (decimals (field_at c.args.s.now (c.read_digits-digits.result.end + 1))) (rw c.in-Malformed.is at c.read_decimals-decimals.ensures.whole_value)).0) ∙ sym p.0; by_index = λ m e. no_magnitude e }

@@ -1,7 +1,6 @@
 use mathlib.Core.Path.{◌≡◌, refl, ap, subst}
 use mathlib.Core.Bool.{Bool, true, false}
 use native.Mathlib.Omega.{arith}
-use borrow.Author.Rules.{rules}
 use lib.IntN.{+ℤ_idl}
 use mir.Facts.{to_z_pos, to_z-of_z}
 use mir.Syntax.{w32}
@@ -38,7 +37,7 @@ returns-else-minus c =
 pub returns-in-Unreadable : goal.returns-in-Unreadable
 returns-in-Unreadable c =
     rw c.in-Unreadable.is (go c.args.minus)
-    where
-      go : (t : Bool) {p : ℕ} → wrong p ≡ read_at p (signed t Unreadable)
-      go true = refl
-      go false = refl
+  where
+    go : (t : Bool) {p : ℕ} → wrong p ≡ read_at p (signed t Unreadable)
+    go true = refl
+    go false = refl

@@ -1,11 +1,10 @@
-use Prim.Native.Nat.{ℕ, ◌+◌, ◌-◌, ◌≤◌, ◌<◌}
+use Prim.Native.Nat.{ℕ, ◌+◌, ◌≤◌, ◌<◌}
 use mathlib.Core.Path.{◌≡◌, refl, sym, ◌∙◌}
 use mathlib.Core.List.{List}
 use native.Mathlib.Omega.{arith}
 use native.Mathlib.Numerals.{add-one}
 use lib.Bits.{bit_xor}
 use lib.ListN.{length, get_or, drop, length-set}
-use lib.Seq.{sets}
 use Rattle.text.specs.Put.{xor_onto}
 use Rattle.text.proofs.Laws.{here, over}
 use Rattle.text.proofs.put.put_bytes.Goals as goal

@@ -1,10 +1,7 @@
-use Prim.Native.Nat.{◌+◌, ◌-◌, ◌≤◌}
-use mathlib.Core.Path.{◌≡◌, refl}
+use mathlib.Core.Path.{refl}
 use native.Mathlib.Omega.{arith}
 use borrow.Author.Tests.{eq-eqb, ne_eqb}
-use lib.ListN.{length, drop}
 use lib.Dec.{eqb}
-use Rattle.text.specs.Scan.{before}
 use Rattle.text.proofs.Laws.{until_hit, until_miss, until_end}
 use Rattle.text.proofs.scan.find.Goals as goal
 

@@ -1,12 +1,8 @@
 -- The invariant: what stands before the byte, counted from `from` on, is what was passed and what is left.
 use Prim.Native.Nat.{◌+◌, ◌-◌, ◌≤◌}
-use mathlib.Core.Path.{◌≡◌, refl}
-use native.Mathlib.Omega.{arith}
-use borrow.Author.Tests.{eq-eqb, ne_eqb}
+use mathlib.Core.Path.{◌≡◌}
 use lib.ListN.{length, drop}
-use lib.Dec.{eqb}
 use Rattle.text.specs.Scan.{before}
-use Rattle.text.proofs.Laws.{until_hit, until_miss, until_end}
 use Rattle.text.proofs.scan.find.Given as goal
 
 abbrev pub invariant-loop-i : goal.invariant-loop-i

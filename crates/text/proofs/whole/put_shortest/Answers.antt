@@ -1,7 +1,6 @@
 use Prim.Native.Nat.{ℕ, ◌≤◌, ◌<◌}
 use mathlib.Core.Path.{◌≡◌, ap}
 use native.Mathlib.Omega.{arith}
-use borrow.Author.Rules.{rules}
 use borrow.Author.Tests.{lt-ltb, le-ltb}
 use lib.ListN.{length}
 use Rattle.text.specs.Whole.{digit, leading, two_digits, shortest}
@@ -13,9 +12,9 @@ one_digit : (v : ℕ) → v < 10 → shortest v ≡ digit 1 v
 unfolding shortest leading
 one_digit v h = rw (lt-ltb v 1000 (omega arith), lt-ltb v 100 (omega arith), lt-ltb v 10 h)
 
-two_digits : (v : ℕ) → 10 ≤ v → v < 100 → shortest v ≡ two_digits v
+two_digits_lem : (v : ℕ) → 10 ≤ v → v < 100 → shortest v ≡ two_digits v
 unfolding shortest leading
-two_digits v l h = rw (lt-ltb v 1000 (omega arith), lt-ltb v 100 h, le-ltb v 10 l)
+two_digits_lem v l h = rw (lt-ltb v 1000 (omega arith), lt-ltb v 100 h, le-ltb v 10 l)
 
 pub put_digit-requires : goal.put_digit-requires
 unfolding digit
@@ -29,11 +28,11 @@ returns-then-v-lt10 c =
 pub put_two_digits-requires : goal.put_two_digits-requires
 unfolding digit
 put_two_digits-requires c =
-    omega (arith, ap length (two_digits c.args.v c.if-v-lt10.false c.if-v-lt100.true))
+    omega (arith, ap length (two_digits_lem c.args.v c.if-v-lt10.false c.if-v-lt100.true))
 
 pub returns-then-v-lt100 : goal.returns-then-v-lt100
 returns-then-v-lt100 c =
-    rw (two_digits _ c.if-v-lt10.false c.if-v-lt100.true) c.put_two_digits.ensures
+    rw (two_digits_lem _ c.if-v-lt10.false c.if-v-lt100.true) c.put_two_digits.ensures
 
 pub put_leading-hundreds-requires : goal.put_leading-hundreds-requires
 put_leading-hundreds-requires c =

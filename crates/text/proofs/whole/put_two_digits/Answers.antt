@@ -1,5 +1,4 @@
 use native.Mathlib.Omega.{arith}
-use borrow.Author.Rules.{rules}
 use Rattle.text.proofs.Laws.{put_then}
 use Rattle.text.proofs.Digits.{digit_length}
 use Rattle.text.proofs.whole.put_two_digits.Goals as goal

@@ -2,17 +2,16 @@ use Prim.Native.Nat.{ℕ, zero, suc, ◌+◌, ◌*◌, ◌^◌, ◌≤◌, ◌<�
 use mathlib.Core.Path.{◌≡◌, refl, ◌∙◌}
 use mathlib.Core.Bool.{true, false}
 use mathlib.Core.List.{List, []}
-use mathlib.Core.Logic.{⊎_elim}
 use native.Mathlib.Omega.{arith}
 use native.Mathlib.Numerals.{add-one}
 use native.Mathlib.Nat.{add-zero, sub-zero, pow-suc}
-use borrow.Author.Rules.{rules}
 use borrow.Author.Tests.{le-leb, lt-leb}
 use lib.ListN.{length, get_or, drop}
 use Rattle.text.specs.Whole.{is_digit, digit_count, digit_value}
 use Rattle.text.proofs.Laws.{here, over}
 use Rattle.text.proofs.whole.read_digits.Invariants.{Begun}
 use Rattle.text.proofs.whole.read_digits.Goals as goal
+use Rattle.text.proofs.whole.read_digits.Goals.{then-room-lt4, else-room-lt4}
 
 -- the digits end after k
 record Ended (s : List ℕ) (from n end : ℕ) : Type 0 where
@@ -102,11 +101,10 @@ start s from most f g h = record {
 }
 
 pub loop-k-init : goal.loop-k-init
-loop-k-init c =
-    ⊎_elim
-    (λ t. start _ _ _ (omega arith) (omega arith) (λ h. omega arith))
-    (λ t. start _ _ _ (omega arith) (omega arith) (λ h. omega arith))
-    c.if-room-lt4.branch
+loop-k-init c = elim c.if-room-lt4.branch [
+  | then-room-lt4 w ↦ start _ _ _ (omega arith) (omega arith) (λ h. omega arith)
+  | else-room-lt4 w ↦ start _ _ _ (omega arith) (omega arith) (λ h. omega arith)
+]
 
 pub overflow_add-b : goal.overflow_add-b
 overflow_add-b c =

@@ -1,17 +1,9 @@
 -- The invariant: k digits were passed and made n, and those that follow are counted and read onto it.
-use Prim.Native.Nat.{ℕ, zero, suc, ◌+◌, ◌*◌, ◌^◌, ◌≤◌, ◌<◌, ◌-◌}
-use mathlib.Core.Path.{◌≡◌, refl, ◌∙◌}
-use mathlib.Core.Bool.{true, false}
-use mathlib.Core.List.{List, []}
-use mathlib.Core.Logic.{⊎_elim}
-use native.Mathlib.Omega.{arith}
-use native.Mathlib.Numerals.{add-one}
-use native.Mathlib.Nat.{add-zero, sub-zero, pow-suc}
-use borrow.Author.Rules.{rules}
-use borrow.Author.Tests.{le-leb, lt-leb}
-use lib.ListN.{length, get_or, drop}
-use Rattle.text.specs.Whole.{is_digit, digit_count, digit_value}
-use Rattle.text.proofs.Laws.{here, over}
+use Prim.Native.Nat.{ℕ, ◌+◌, ◌^◌, ◌≤◌, ◌<◌, ◌-◌}
+use mathlib.Core.Path.{◌≡◌}
+use mathlib.Core.List.{List}
+use lib.ListN.{length, drop}
+use Rattle.text.specs.Whole.{digit_count, digit_value}
 use Rattle.text.proofs.whole.read_digits.Given as goal
 
 pub record Begun (s : List ℕ) (from most n k : ℕ) : Type 0 where

@@ -1,8 +1,6 @@
--- `d` is where the digits were read, and `s` where the function starts.
 use Prim.Native.Nat.{◌+◌}
 use mathlib.Core.Path.{refl, sym, ap, ◌∙◌}
 use native.Mathlib.Omega.{arith}
-use borrow.Author.Rules.{rules}
 use lib.ListN.{drop}
 use Rattle.text.specs.Read.{value, read_at}
 use Rattle.text.specs.Whole.{digit_count}
@@ -17,7 +15,7 @@ returns-then-end-from c =
 pub returns-then-is_end : goal.returns-then-is_end
 returns-then-is_end c =
     let t = drop c.args.from c.args.s.now in
-    let e = end_test c.args.s.now c.args.from (digit_count 4 t) c.read_digits-digits.ensures.end_value.0 c.is_end.ensures ∙ c.if-is_end.true in 
+    let e = end_test c.args.s.now c.args.from (digit_count 4 t) c.read_digits-digits.ensures.end_value.0 c.is_end.ensures ∙ c.if-is_end.true in
     record { whole_value = ap value c.read_digits-digits.ensures.end_value.1 ∙ ap (read_at c.args.from) (sym (whole_read 32 refl t (some_digits c.args.from _ c.read_digits-digits.ensures.end_value.0 c.if-end-from.false) e)); by_index = λ v _. c.read_digits-digits.ensures.end_value.0 ∙ ap (λ m. c.args.from + m) (sym (digits_end 32 refl t e)); end_in_bounds = c.read_digits-digits.ensures.end_in_bounds.0 }
 
 pub returns : goal.returns
