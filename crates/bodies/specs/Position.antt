@@ -1,6 +1,6 @@
 -- Where the body of a slice is wrong (document 02, E9): the position of refusals 9 to 12, an offset in the slice.
 use Rattle.std.specs.Prelude.{ℕ, ◌-◌, Bool, true, cond, not, List, [], ◌∷◌, eqb, length, drop}
-use Rattle.std.proofs.Math.Option.{Option, none, some, map}
+use Rattle.std.proofs.Math.Option.{Option, map}
 use Rattle.text.specs.Read.{Read, value, wrong, read_at}
 use Rattle.text.specs.Whole.{read_whole}
 use Rattle.frame.specs.Fields.{fields, Placed, placed, reads_as, start_of, offending}

@@ -1,8 +1,8 @@
 -- The texts of data: their bytes, their length, and that data in range read back from them.
 use Prim.Native.Nat.{ℕ, ◌-◌, ◌*◌, ◌≤◌}
 use mathlib.Core.Path.{◌≡◌, refl, ap}
-use mathlib.Core.Bool.{true, false}
-use mathlib.Core.List.{List, []}
+use mathlib.Core.Bool.{true}
+use mathlib.Core.List.{[]}
 use mathlib.Core.Option.{none, some, map}
 use native.Mathlib.Omega.{arith}
 use lib.ListN.{length}
@@ -10,12 +10,10 @@ use Rattle.text.proofs.Laws.{Skips}
 use Rattle.frame.specs.Fields.{fields, read_fields, offending}
 use Rattle.frame.specs.Frame.{is_stray}
 use Rattle.frame.proofs.Placed.{offending_lack}
-use Rattle.steps.specs.declared.step.Step.{Step}
 use Rattle.steps.specs.Step.{read_step}
 use Rattle.steps.proofs.Back.{step_clean, step_length, step_reads_back}
 use Rattle.commands.specs.declared.table.Form.{Form}
 use Rattle.commands.specs.declared.table.Form.TheVariants.{Numbers, Texts}
-use Rattle.commands.specs.declared.request.Row.{Row}
 use Rattle.commands.specs.declared.request.Payload.{Payload}
 use Rattle.commands.specs.declared.request.Payload.TheVariants as payload
 use Rattle.commands.specs.Request.{row_in, step_in}

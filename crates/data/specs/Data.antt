@@ -1,6 +1,6 @@
 -- Data as text (document 01, "Commands"; for texts document 02, E3): numbers of a kind, or the texts of a step.
 use Rattle.std.specs.Prelude.{ℕ, Bool, List, length, drop}
-use Rattle.std.proofs.Math.Option.{Option, none, some, map}
+use Rattle.std.proofs.Math.Option.{Option, map}
 use Rattle.frame.specs.Fields.{fields, placed, offending}
 use Rattle.text.specs.Read.{Read, value, wrong, read_at}
 use Rattle.steps.specs.Step.{step_from, read_step, step_forms, step_text}

@@ -66,7 +66,7 @@ asked_short st r e =
 pub requests_short : RequestsShort
 unfolding write_request
 requests_short room st r =
-    unless_refused _ _ (frame_of st (body_text (parts_of r))) (λ e.
+    unless_refused _ _ (frame_of st (body_text (parts_of r))) (λ (e : cond (ltb room 64) 1 (judge_asked st r) ≡ 0).
     omega (arith, asked_short st r (check_passed (ltb room 64) 1 (judge_asked st r) (omega arith) e).1))
 
 -- before the texts of a step stands the asked number

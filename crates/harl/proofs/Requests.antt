@@ -8,7 +8,7 @@ use native.Mathlib.Omega.{arith}
 use borrow.Author.Tests.{ltb-true, ltb-false, eqb-false}
 use lib.Dec.{ltb, eqb}
 use lib.ListN.{length}
-use Rattle.text.specs.Scan.{until, before}
+use Rattle.text.specs.Scan.{until}
 use Rattle.text.specs.Whole.{digit, leading, shortest}
 use Rattle.text.proofs.Laws.{Skips, skips_all, skips_cons, skips_append}
 use Rattle.text.proofs.Digits.{read_shortest, shortest_skips}

@@ -12,7 +12,6 @@ use Rattle.commands.specs.declared.request.Row.{Row}
 use Rattle.commands.specs.declared.request.Payload.{Payload}
 use Rattle.replies.specs.declared.reply.Data.{Data}
 use Rattle.replies.specs.declared.reply.Data.TheVariants as held
-use Rattle.replies.specs.declared.reply.Outcome.{Outcome}
 use Rattle.replies.specs.declared.reply.Outcome.TheVariants as outcome
 use Rattle.reply_reader.specs.declared.reader.Carried.{Carried}
 use Rattle.reply_reader.specs.declared.reader.Carried.TheVariants as carried

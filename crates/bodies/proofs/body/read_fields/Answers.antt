@@ -1,6 +1,4 @@
--- `name` is where the name was read, `k` its command, `r` the command's rule, `s` where the fields after it were read, and
--- `start` where the function starts.
-use Prim.Native.Nat.{ℕ, ◌+◌, ◌≤◌}
+use Prim.Native.Nat.{ℕ, ◌+◌, ◌-◌, ◌≤◌}
 use mathlib.Core.Path.{◌≡◌, refl, sym, ap, ◌∙◌}
 use mathlib.Core.Bool.{true, false, cond}
 use mathlib.Core.List.{List, [], ◌∷◌}
@@ -8,7 +6,7 @@ use mathlib.Core.Option.{Option, none, some}
 use native.Mathlib.Omega.{arith}
 use borrow.Author.Rules.{rules}
 use lib.Dec.{eqb}
-use lib.ListN.{length, drop}
+use lib.ListN.{length, take, drop}
 use Rattle.text.specs.Read.{value, wrong, read_at}
 use Rattle.text.specs.Scan.{field_at, end_at}
 use Rattle.text.proofs.Read.{was_read, was_wrong}
@@ -38,11 +36,9 @@ use Rattle.bodies.proofs.body.read_fields.Goals as goal
 -- ---- what the fields after the name were read as
 
 start_some : (start : ℕ) (o : Option (ℕ × Payload)) {n d : ℕ} {p : Payload} → started start o ≡ some (n, (p, d)) → (o ≡ some (n, p)) × (d ≡ start)
-
 start_some start (some q) {n} {d} {p} e =
     let w : ◌≡◌ {A = ℕ × (Payload × ℕ)} (q.0, (q.1, start)) (n, (p, d)) = cc in
     (ap (λ (x : ℕ × (Payload × ℕ)). some (x.0, x.1.0)) w, sym (ap (λ (x : ℕ × (Payload × ℕ)). x.1.1) w))
-
 start_some start none e = no_some e
 
 start_none : (start : ℕ) (o : Option (ℕ × Payload)) → started start o ≡ none → o ≡ none
@@ -125,48 +121,49 @@ module _ (s : List ℕ) (i : ℕ) where
 
 -- ---- the name as it was read
 
-module _ (c : tie.After-name) where
-  abbrev start : tie.Start
-  start = c.before.before.before.before.before
+command : (s : List ℕ) (from : ℕ) {m : Named} {k : Command} → m ≡ command_of (field_at (take (length s - from) (drop from s)) 0) → m ≡ Is k → command_of (field_at s from) ≡ Is k
+command s from r v = sym (rw (rest from s) at r) ∙ v
 
-  command : command_of (field_at start.args.s.now start.args.from) ≡ Is c.name.given.0.0
-  command = sym (rw (rest start.args.from start.args.s.now) at c.before.before.read_name.ensures.0) ∙ c.name.given.1
-
-  ends : start.args.from + c.before.before.read_name.result.end ≡ end_at start.args.s.now start.args.from
-  ends = omega (arith, rw (rest start.args.from start.args.s.now) at (c.before.before.read_name.ensures.1.0 _ c.name.given.1))
+ends : (s : List ℕ) (from : ℕ) {e : ℕ} → e ≡ end_at (take (length s - from) (drop from s)) 0 → from + e ≡ end_at s from
+ends s from r = omega (arith, rw (rest from s) at r)
 
 pub returns-in_default : goal.returns-in_default
 returns-in_default c =
-    c.refused.ensures _ ∙ unknown c.args.s.now c.args.from (sym (rw (rest c.args.from c.args.s.now) at c.read_name-read.ensures.name_value) ∙ c.in_default.is)
+    c.refused.ensures c.args.texts.now ∙ unknown c.args.s.now c.args.from (sym (rw (rest c.args.from c.args.s.now) at c.read_name-read.ensures.name_value) ∙ c.in_default.is)
 
 pub overflow_add-end : goal.overflow_add-end
 overflow_add-end c =
-    let e = ends c in
+    let e = ends c.args.s.now c.args.from (c.read_name-read.ensures.end_value _ c.in-Is.is) in
     search rules
 
 pub returns-then-end-s : goal.returns-then-end-s
 returns-then-end-s c =
-    let a = (start c).args in
-    c.refused-then-end-s.ensures _ ∙ alone a.s.now a.from (start c).requires (command c) (ends c) c.rule_of-rule.ensures c.if-end-s.true
+    let a = c.args in
+    let r = c.read_name-read.ensures in
+    c.refused-then-end-s.ensures c.args.texts.now ∙ alone a.s.now a.from c.requires (command a.s.now a.from r.name_value c.in-Is.is) (ends a.s.now a.from (r.end_value _ c.in-Is.is)) c.rule_of-rule.ensures c.if-end-s.true
 
 pub step_or_refusal-requires : goal.step_or_refusal-requires
 step_or_refusal-requires c =
-    let a = (start c).args in
-    c.rule_of-rule.ensures ∙ ap rule_of (stores_step a.s.now a.from (start c).requires (command c) (ends c) c.rule_of-rule.ensures c.if-end-s.false (rw c.in-Texts.is at c.read_shape-shape.ensures)).0
+    let a = c.args in
+    let r = c.read_name-read.ensures in
+    c.rule_of-rule.ensures ∙ ap rule_of (stores_step a.s.now a.from c.requires (command a.s.now a.from r.name_value c.in-Is.is) (ends a.s.now a.from (r.end_value _ c.in-Is.is)) c.rule_of-rule.ensures c.if-end-s.false (rw c.in-Texts.is at c.read_shape-shape.ensures)).0
 
 pub returns-in-Of : goal.returns-in-Of
 returns-in-Of c =
-    let a = (start c).args in
-    judged a.s.now a.from (start c).requires (command c) (ends c) c.rule_of-rule.ensures c.if-end-s.false (rw c.in-Of.is at c.read_shape-shape.ensures) _ refl (λ z. refl) (c.request_or_refusal.ensures _)
+    let a = c.args in
+    let r = c.read_name-read.ensures in
+    judged a.s.now a.from c.requires (command a.s.now a.from r.name_value c.in-Is.is) (ends a.s.now a.from (r.end_value _ c.in-Is.is)) c.rule_of-rule.ensures c.if-end-s.false (rw c.in-Of.is at c.read_shape-shape.ensures) _ refl (λ z. refl) (c.request_or_refusal.ensures c.read_shape-shape.new.texts)
 
 pub returns-in-Texts : goal.returns-in-Texts
 returns-in-Texts c =
-    let a = (start c).args in
+    let a = c.args in
+    let r = c.read_name-read.ensures in
     let x = rw c.in-Texts.is at c.read_shape-shape.ensures in
-    judged_step a.s.now a.from (start c).requires (command c) (ends c) c.rule_of-rule.ensures c.if-end-s.false x
-    (c.step_or_refusal.ensures _ (stores_step a.s.now a.from (start c).requires (command c) (ends c) c.rule_of-rule.ensures c.if-end-s.false x).1)
+    judged_step a.s.now a.from c.requires (command a.s.now a.from r.name_value c.in-Is.is) (ends a.s.now a.from (r.end_value _ c.in-Is.is)) c.rule_of-rule.ensures c.if-end-s.false x
+    (c.step_or_refusal.ensures c.read_shape-shape.new.texts (stores_step a.s.now a.from c.requires (command a.s.now a.from r.name_value c.in-Is.is) (ends a.s.now a.from (r.end_value _ c.in-Is.is)) c.rule_of-rule.ensures c.if-end-s.false x).1)
 
 pub returns-in-Malformed : goal.returns-in-Malformed
 returns-in-Malformed c =
-    let a = (start c).args in
-    c.refused-in-Malformed.ensures _ ∙ misshapen a.s.now a.from (start c).requires (command c) (ends c) c.rule_of-rule.ensures c.if-end-s.false (rw c.in-Malformed.is at c.read_shape-shape.ensures)
+    let a = c.args in
+    let r = c.read_name-read.ensures in
+    c.refused-in-Malformed.ensures c.read_shape-shape.new.texts ∙ misshapen a.s.now a.from c.requires (command a.s.now a.from r.name_value c.in-Is.is) (ends a.s.now a.from (r.end_value _ c.in-Is.is)) c.rule_of-rule.ensures c.if-end-s.false (rw c.in-Malformed.is at c.read_shape-shape.ensures)

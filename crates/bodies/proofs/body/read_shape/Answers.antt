@@ -1,18 +1,18 @@
--- `read` is where the number was read, `n` the number, `d` where the data were read, and `s` where the function starts.
 use Prim.Native.Nat.{ℕ, ◌+◌, ◌≤◌}
-use mathlib.Core.Path.{◌≡◌, refl, sym, ap, ◌∙◌}
+use mathlib.Core.Path.{◌≡◌, sym, ap, ◌∙◌}
 use mathlib.Core.Bool.{true, false, cond}
 use mathlib.Core.List.{List, [], ◌∷◌, map}
 use mathlib.Core.Option.{none, some}
-use borrow.Author.Rules.{rules}
 use lib.ListN.{length, drop}
 use Rattle.text.specs.Scan.{field_at, end_at}
-use Rattle.text.specs.Whole.{read_whole}
+use Rattle.text.specs.Whole.{read_whole, whole_answer}
+use Rattle.text.specs.declared.whole.Whole.{Whole}
+use Rattle.text.specs.declared.whole.Whole.TheVariants.{Value}
 use Rattle.text.specs.Read.{Read, value, wrong, read_at}
 use Rattle.text.proofs.Read.{was_read, was_wrong}
 use Rattle.frame.specs.Fields.{fields, Placed, placed_more, placed, reads_as, start_of, offending}
 use Rattle.frame.proofs.Laws.{first_is}
-use Rattle.frame.proofs.Placed.{placed_texts, placed_only, placed_next, offending_none, offending_lack, offending_next}
+use Rattle.frame.proofs.Placed.{placed_texts, placed_only, placed_next, offending_none, offending_next}
 use Rattle.commands.specs.declared.table.Rule.{Rule}
 use Rattle.commands.specs.declared.request.Row.{Row}
 use Rattle.commands.specs.declared.request.Payload.{Payload}
@@ -91,45 +91,44 @@ module _ (rule : Rule) (s : List ℕ) (i : ℕ) where
 
 -- ---- the number as it was read
 
-module _ (c : tie.After-whole) where
-  abbrev start : tie.Start
-  start = c.before.before.before.before
-
-  number : read_whole (field_at start.args.s.now start.args.from) ≡ some c.whole.given.0.0
-  number = was_read _ _ (rw c.whole.given.1 at c.before.before.read_whole.ensures.0)
-
-  ends : c.before.before.read_whole.result.end ≡ end_at start.args.s.now start.args.from
-  ends = c.before.before.read_whole.ensures.1.0 _ c.whole.given.1
+number : (s : List ℕ) (from : ℕ) {w : Whole} {n : ℕ} → whole_answer w ≡ read_at from (read_whole (field_at s from)) → w ≡ Value n → read_whole (field_at s from) ≡ some n
+number s from r v = was_read _ _ (rw v at r)
 
 pub returns-then-rule : goal.returns-then-rule
 returns-then-rule c =
-    let a = (start c).args in
-    lacks a.rule a.s.now a.from (start c).requires (number c) (ends c) c.if-rule.true c.if-end-s.true
+    let a = c.args in
+    let r = c.read_whole-read.ensures in
+    lacks a.rule a.s.now a.from c.requires (number a.s.now a.from r.whole_value c.in-Value.is) (r.by_index _ c.in-Value.is) c.if-rule.true c.if-end-s.true
 
 pub returns-then-end-s : goal.returns-then-end-s
 returns-then-end-s c =
-    let a = (start c).args in
-    bare a.rule a.s.now a.from (start c).requires (number c) (ends c) _ c.if-rule.false c.if-end-s.true
+    let a = c.args in
+    let r = c.read_whole-read.ensures in
+    bare a.rule a.s.now a.from c.requires (number a.s.now a.from r.whole_value c.in-Value.is) (r.by_index _ c.in-Value.is) _ c.if-rule.false c.if-end-s.true
 
 pub returns-in-Numbers : goal.returns-in-Numbers
 returns-in-Numbers c =
-    let a = (start c).args in
-    with_numbers a.rule a.s.now a.from (start c).requires (number c) (ends c) c.if-rule-2.true c.if-end-s.false (rw c.in-Numbers.is at c.read_data-read.ensures)
+    let a = c.args in
+    let r = c.read_whole-read.ensures in
+    with_numbers a.rule a.s.now a.from c.requires (number a.s.now a.from r.whole_value c.in-Value.is) (r.by_index _ c.in-Value.is) c.if-rule-2.true c.if-end-s.false (rw c.in-Numbers.is at c.read_data-read.ensures)
 
 pub returns-in-Texts : goal.returns-in-Texts
 returns-in-Texts c =
-    let a = (start c).args in
-    with_data a.rule a.s.now a.from (start c).requires (number c) (ends c) c.if-rule-2.true c.if-end-s.false (rw c.in-Texts.is at c.read_data-read.ensures)
+    let a = c.args in
+    let r = c.read_whole-read.ensures in
+    with_data a.rule a.s.now a.from c.requires (number a.s.now a.from r.whole_value c.in-Value.is) (r.by_index _ c.in-Value.is) c.if-rule-2.true c.if-end-s.false (rw c.in-Texts.is at c.read_data-read.ensures)
 
 pub returns-in-Malformed-read : goal.returns-in-Malformed-read
 returns-in-Malformed-read c =
-    let a = (start c).args in
-    misshapen a.rule a.s.now a.from (start c).requires (number c) (ends c) c.if-rule-2.true c.if-end-s.false (rw c.in-Malformed-read.is at c.read_data-read.ensures)
+    let a = c.args in
+    let r = c.read_whole-read.ensures in
+    misshapen a.rule a.s.now a.from c.requires (number a.s.now a.from r.whole_value c.in-Value.is) (r.by_index _ c.in-Value.is) c.if-rule-2.true c.if-end-s.false (rw c.in-Malformed-read.is at c.read_data-read.ensures)
 
 pub returns-else-rule-2 : goal.returns-else-rule-2
 returns-else-rule-2 c =
-    let a = (start c).args in
-    surplus a.rule a.s.now a.from (start c).requires (number c) (ends c) c.if-rule-2.false c.if-end-s.false
+    let a = c.args in
+    let r = c.read_whole-read.ensures in
+    surplus a.rule a.s.now a.from c.requires (number a.s.now a.from r.whole_value c.in-Value.is) (r.by_index _ c.in-Value.is) c.if-rule-2.false c.if-end-s.false
 
 pub returns-in-Malformed : goal.returns-in-Malformed
 returns-in-Malformed c =

@@ -1,4 +1,3 @@
-use borrow.Author.Rules.{rules}
 use Rattle.bodies.proofs.body.request_with.Goals as goal
 
 pub returns-in-Request : goal.returns-in-Request
@@ -7,4 +6,4 @@ returns-in-Request c =
 
 pub returns-in-Step : goal.returns-in-Step
 returns-in-Step c =
-    rw (c.in-Step.is, ← c.step_of_lem.ensures)
+    rw (c.in-Step.is, ← c.step_of.ensures)

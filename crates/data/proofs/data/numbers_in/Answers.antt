@@ -1,4 +1,3 @@
-use borrow.Author.Rules.{rules}
 use Rattle.numbers.specs.Numbers.{read_numbers}
 use Rattle.text.proofs.Read.{was_read, was_wrong}
 use lib.ListN.{drop}

@@ -1,4 +1,3 @@
-use borrow.Author.Rules.{rules}
 use Rattle.data.proofs.data.put_data.Goals as goal
 
 pub put_numbers-requires : goal.put_numbers-requires
@@ -7,7 +6,7 @@ put_numbers-requires c =
 
 pub put_step-requires : goal.put_step-requires
 put_step-requires c =
-    rw c.step_in_lem.ensures (rw c.in-Texts.is at c.requires)
+    rw c.step_in.ensures (rw c.in-Texts.is at c.requires)
 
 pub returns-in-Numbers : goal.returns-in-Numbers
 returns-in-Numbers c =
@@ -15,4 +14,4 @@ returns-in-Numbers c =
 
 pub returns-in-Texts : goal.returns-in-Texts
 returns-in-Texts c =
-    rw (c.in-Texts.is, ← c.step_in_lem.ensures) c.put_step.ensures
+    rw (c.in-Texts.is, ← c.step_in.ensures) c.put_step.ensures

@@ -1,9 +1,8 @@
-use borrow.Author.Rules.{rules}
 use Rattle.data.proofs.data.read_data.Goals as goal
 
 pub returns-in-Numbers : goal.returns-in-Numbers
 returns-in-Numbers c =
-    rw c.in-Numbers.is (c.numbers_in.ensures _)
+    rw c.in-Numbers.is (c.numbers_in.ensures c.args.texts.now)
 
 pub returns-in-Texts : goal.returns-in-Texts
 returns-in-Texts c =

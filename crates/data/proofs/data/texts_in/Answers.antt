@@ -1,4 +1,3 @@
-use borrow.Author.Rules.{rules}
 use lib.ListN.{drop}
 use Rattle.frame.specs.Fields.{fields}
 use Rattle.steps.specs.Step.{read_step}

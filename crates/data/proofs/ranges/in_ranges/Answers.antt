@@ -1,4 +1,3 @@
-use borrow.Author.Rules.{rules}
 use Rattle.data.proofs.ranges.in_ranges.Goals as goal
 
 pub returns-in-Numbers : goal.returns-in-Numbers

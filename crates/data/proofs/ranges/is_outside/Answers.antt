@@ -3,8 +3,8 @@ use Rattle.data.proofs.ranges.is_outside.Goals as goal
 
 pub returns-then-number-rule : goal.returns-then-number-rule
 returns-then-number-rule c =
-    simp (lt-ltb _ _ c.if-number-rule.taken)
+    simp (lt-ltb _ _ c.if-number-rule.true)
 
 pub returns : goal.returns
 returns c =
-    simp (le-ltb _ _ c.if-number-rule.left)
+    simp (le-ltb _ _ c.if-number-rule.false)

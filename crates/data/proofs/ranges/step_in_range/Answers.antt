@@ -1,4 +1,3 @@
-use borrow.Author.Rules.{rules}
 use Rattle.data.proofs.ranges.step_in_range.Goals as goal
 
 pub returns-in-Texts : goal.returns-in-Texts

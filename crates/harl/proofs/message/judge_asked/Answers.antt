@@ -1,5 +1,3 @@
--- `p` is where the request was taken apart.
-use borrow.Author.Rules.{rules}
 use borrow.Author.Tests.{eq-eqb, ne_eqb, lt-ltb, le-ltb}
 use Rattle.harl.specs.Message.{judge_asked}
 use Rattle.harl.proofs.message.judge_asked.Goals as goal

@@ -1,5 +1,3 @@
--- `j` is where the request was judged, `f` where the frame was read, `p` where the request was taken apart, and `o` where the outcome was read.
-use borrow.Author.Rules.{rules}
 use borrow.Author.Tests.{eq-eqb, ne_eqb}
 use Rattle.harl.specs.Message.{read_reply}
 use Rattle.harl.proofs.message.read_reply.Goals as goal

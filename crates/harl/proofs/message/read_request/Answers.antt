@@ -1,6 +1,4 @@
--- `f` is where the frame was read, and `b` where its body was.
 use mathlib.Core.Path.{sym, ap, ◌∙◌}
-use borrow.Author.Rules.{rules}
 use borrow.Author.Tests.{eq-eqb, ne_eqb}
 use Rattle.harl.specs.Message.{no_request, read_request}
 use Rattle.harl.proofs.Laws.{body_judged, body_refused}
@@ -18,9 +16,9 @@ read_body-read-requires c =
 pub returns-in-Accepted : goal.returns-in-Accepted
 unfolding read_request
 returns-in-Accepted c =
-    rw (← c.read_frame-body.ensures.read.number_is, eq-eqb _ _ c.if-number-ne0.false, ← c.read_frame-body.ensures.read.station_is, body_judged c.args.slice.now _ c.read_body-read.result c.read_body-read.ensures c.in-Accepted.is, ← c.request_with.ensures)
+    rw (← c.read_frame-body.ensures.read.number_is, eq-eqb _ _ c.if-number-ne0.false, ← c.read_frame-body.ensures.read.station_is, body_judged c.args.slice.now c.read_body-read.new.texts c.read_body-read.result c.read_body-read.ensures c.in-Accepted.is, ← c.request_with.ensures)
 
 pub returns-in-Refused : goal.returns-in-Refused
 unfolding read_request
 returns-in-Refused c =
-    rw (← c.read_frame-body.ensures.read.number_is, eq-eqb _ _ c.if-number-ne0.false, body_judged c.args.slice.now _ c.read_body-read.result c.read_body-read.ensures c.in-Refused.is) (ap (no_request c.in-Refused.n) (body_refused c.args.slice.now _ c.read_body-read.result c.read_body-read.ensures c.in-Refused.is))
+    rw (← c.read_frame-body.ensures.read.number_is, eq-eqb _ _ c.if-number-ne0.false, body_judged c.args.slice.now c.read_body-read.new.texts c.read_body-read.result c.read_body-read.ensures c.in-Refused.is) (ap (no_request c.in-Refused.n) (body_refused c.args.slice.now c.read_body-read.new.texts c.read_body-read.result c.read_body-read.ensures c.in-Refused.is))

@@ -1,8 +1,6 @@
--- `j` is where the request was judged, `p` where it was taken apart, `v` where the outcome was judged, `o` where the frame was opened, `b` where the outcome was put, and `f` where the frame was closed.
 use Prim.Native.Nat.{◌≤◌}
 use mathlib.Core.Path.{◌≡◌, sym, ◌∙◌}
 use native.Mathlib.Omega.{arith}
-use borrow.Author.Rules.{rules}
 use borrow.Author.Tests.{lt-ltb, le-ltb, eq-eqb, ne_eqb}
 use lib.ListN.{length}
 use Rattle.text.proofs.Digits.{shortest_short}

@@ -1,8 +1,6 @@
--- `j` is where the request was judged, `o` where the frame was opened, `p` where the request was taken apart, `b` where the body was put, and `f` where the frame was closed.
 use Prim.Native.Nat.{◌≤◌}
 use mathlib.Core.Path.{◌≡◌, sym, ◌∙◌}
 use native.Mathlib.Omega.{arith}
-use borrow.Author.Rules.{rules}
 use borrow.Author.Tests.{lt-ltb, le-ltb, ne_eqb}
 use Rattle.text.proofs.Digits.{shortest_short}
 use lib.ListN.{length}

@@ -1,5 +1,4 @@
 use native.Mathlib.Omega.{arith}
-use borrow.Author.Rules.{rules}
 use lib.ListN.{length-append}
 use Rattle.text.proofs.Laws.{put_then}
 use Rattle.data.specs.Data.{data_text}

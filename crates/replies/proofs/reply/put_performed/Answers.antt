@@ -1,4 +1,3 @@
-use borrow.Author.Rules.{rules}
 use Rattle.replies.proofs.reply.put_performed.Goals as goal
 
 pub put_held-requires : goal.put_held-requires

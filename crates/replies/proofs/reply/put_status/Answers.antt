@@ -1,5 +1,4 @@
 use native.Mathlib.Omega.{arith}
-use borrow.Author.Rules.{rules}
 use Rattle.text.specs.Whole.{digit}
 use Rattle.text.proofs.Laws.{put_then}
 use Rattle.replies.specs.Reply.{status_text}

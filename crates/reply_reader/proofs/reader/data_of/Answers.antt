@@ -1,4 +1,3 @@
-use borrow.Author.Rules.{rules}
 use Rattle.reply_reader.proofs.reader.data_of.Goals as goal
 
 pub returns-in-Numbers : goal.returns-in-Numbers
@@ -7,4 +6,4 @@ returns-in-Numbers c =
 
 pub returns-in-Texts : goal.returns-in-Texts
 returns-in-Texts c =
-    rw (c.in-Texts.is, ← c.step_in_lem.ensures)
+    rw (c.in-Texts.is, ← c.step_in.ensures)

@@ -1,5 +1,4 @@
-use mathlib.Core.Path.{◌≡◌, sym, ◌∙◌}
-use borrow.Author.Rules.{rules}
+use mathlib.Core.Path.{sym, ◌∙◌}
 use Rattle.reply_reader.proofs.reader.held_in.Goals as goal
 
 pub returns-then-in_ranges : goal.returns-then-in_ranges

@@ -1,15 +1,15 @@
--- `fields-are` tells the fields of the body: the number, and those after it.
 use Prim.Native.Nat.{ℕ, ◌+◌}
-use mathlib.Core.Path.{◌≡◌, refl, sym, ap, ◌∙◌}
-use mathlib.Core.Bool.{cond}
+use mathlib.Core.Path.{◌≡◌, sym, ◌∙◌}
 use mathlib.Core.List.{List, [], ◌∷◌, map}
 use mathlib.Core.Option.{none, some}
 use native.Mathlib.Omega.{arith}
-use borrow.Author.Rules.{rules}
 use borrow.Author.Tests.{eq-eqb, ne_eqb}
 use lib.ListN.{length, drop}
 use Rattle.text.specs.Scan.{field_at, end_at}
-use Rattle.text.specs.Whole.{read_whole}
+use Rattle.text.specs.Whole.{read_whole, whole_answer}
+use Rattle.text.specs.declared.whole.Whole.{Whole}
+use Rattle.text.specs.declared.whole.Whole.TheVariants.{Value}
+use Rattle.text.specs.Read.{read_at}
 use Rattle.text.proofs.Read.{was_read, was_wrong}
 use Rattle.frame.specs.Fields.{Placed, fields, placed, placed_more}
 use Rattle.frame.proofs.Laws.{first_is}
@@ -49,15 +49,9 @@ module _ (asked : ℕ) (s : List ℕ) where
           answer_is (record { position = 0; text = field_at s 0 } ∷ placed (e + 1) (drop (e + 1) s)) (rw q (placed_next s 0 (omega arith) (λ d. z (q ∙ d))))
           ∙ rw (w, eq-eqb n asked same, placed_texts (e + 1) (drop (e + 1) s))
 
-module _ (c : tie.After-whole) where
-  abbrev start : tie.Start
-  start = c.before.before.before.before
-
-  number : read_whole (field_at start.args.body.now 0) ≡ some c.whole.given.0.0
-  number = was_read _ _ (rw c.whole.given.1 at c.before.before.read_whole.ensures.0)
-
-  ends : c.before.before.read_whole.result.end ≡ end_at start.args.body.now 0
-  ends = c.before.before.read_whole.ensures.1.0 _ c.whole.given.1
+-- the number as it was read
+number : (s : List ℕ) {w : Whole} {n : ℕ} → whole_answer w ≡ read_at 0 (read_whole (field_at s 0)) → w ≡ Value n → read_whole (field_at s 0) ≡ some n
+number s r v = was_read _ _ (rw v at r)
 
 pub returns-in_default : goal.returns-in_default
 unfolding promised
@@ -67,14 +61,14 @@ returns-in_default c =
 pub returns-then-n-asked : goal.returns-then-n-asked
 unfolding promised
 returns-then-n-asked c =
-    another (start c).args.asked (start c).args.body.now (number c) c.if-n-asked.true
+    another c.args.asked c.args.body.now (number c.args.body.now c.read_whole-read.ensures.whole_value c.in-Value.is) c.if-n-asked.true
 
 pub returns-then-end-body : goal.returns-then-end-body
 unfolding promised
 returns-then-end-body c =
-    alone (start c).args.asked (start c).args.body.now (number c) c.if-n-asked.false (ends c) c.if-end-body.true
+    alone c.args.asked c.args.body.now (number c.args.body.now c.read_whole-read.ensures.whole_value c.in-Value.is) c.if-n-asked.false (c.read_whole-read.ensures.by_index _ c.in-Value.is) c.if-end-body.true
 
 pub returns : goal.returns
 unfolding promised
 returns c =
-    c.read_content.ensures ∙ sym (followed (start c).args.asked (start c).args.body.now (number c) c.if-n-asked.false (ends c) c.if-end-body.false)
+    c.read_content.ensures ∙ sym (followed c.args.asked c.args.body.now (number c.args.body.now c.read_whole-read.ensures.whole_value c.in-Value.is) c.if-n-asked.false (c.read_whole-read.ensures.by_index _ c.in-Value.is) c.if-end-body.false)

@@ -1,4 +1,3 @@
-use borrow.Author.Rules.{rules}
 use Rattle.reply_reader.proofs.reader.read_outcome.Goals as goal
 
 pub returns-then-rule : goal.returns-then-rule

@@ -4,7 +4,6 @@ use mathlib.Core.Bool.{Bool, true, false, cond}
 use mathlib.Core.List.{List, [], ◌∷◌}
 use mathlib.Core.Option.{none, some}
 use native.Mathlib.Omega.{arith}
-use borrow.Author.Rules.{rules}
 use borrow.Author.Tests.{eq-eqb, ne_eqb}
 use lib.Dec.{eqb}
 use lib.ListN.{length}
@@ -64,6 +63,12 @@ returns-then-s-ne2 c =
 pub returns-then-digits-ne2 : goal.returns-then-digits-ne2
 returns-then-digits-ne2 c =
     sym (other c.args.s.now c.if-s-ne2.false (λ z. c.if-digits-ne2.true (omega (arith, c.read_digits-digits.ensures.end_value.0, z))))
+
+-- c.read_digits-digits.ensures.end_value has the end, and the value
+pub overflow_cast-result : goal.overflow_cast-result
+overflow_cast-result c =
+    let d = c.read_digits-digits.ensures.end_value in
+    record { fits = omega (arith, d.1, small c.args.s.now c.if-s-ne2.false (omega (arith, d.0, c.if-digits-ne2.false))) }
 
 pub returns : goal.returns
 returns c =

@@ -1,4 +1,3 @@
-use borrow.Author.Rules.{rules}
 use Rattle.reply_writer.proofs.writer.number_fits.Goals as goal
 
 pub returns-in-Texts : goal.returns-in-Texts

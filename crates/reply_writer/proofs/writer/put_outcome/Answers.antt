@@ -1,4 +1,3 @@
-use borrow.Author.Rules.{rules}
 use Rattle.reply_writer.specs.Writer.{outcome_text}
 use Rattle.reply_writer.proofs.writer.put_outcome.Goals as goal
 
