@@ -1,6 +1,4 @@
--- `o` is where the frame was opened, `b` where its body was put, and `f` where it was closed.
 use native.Mathlib.Omega.{arith}
-use borrow.Author.Rules.{rules}
 use Rattle.text.proofs.Digits.{shortest_short}
 use Rattle.frame.proofs.Writing.{opening_length, framed}
 use Rattle.replies.proofs.Texts.{refusal_length}

@@ -1,10 +1,8 @@
--- `b` is where the body was read, `v` what it was judged, `p` where the request was performed, and `w` where the reply was put.
 use Prim.Native.Nat.{ℕ, ◌≤◌}
 use mathlib.Core.Path.{◌≡◌}
-use mathlib.Core.Bool.{Bool, true}
+use mathlib.Core.Bool.{Bool}
 use mathlib.Core.List.{List}
 use native.Mathlib.Omega.{arith}
-use borrow.Author.Rules.{rules}
 use lib.ListN.{length}
 use Rattle.text.specs.Put.{PutAt}
 use Rattle.frame.specs.Frame.{read_frame, frame_of}
@@ -15,7 +13,7 @@ use Rattle.bodies.specs.Body.{read_body}
 use Rattle.bodies.specs.Position.{body_position}
 use Rattle.replies.specs.Reply.{number_in, performed_text, refusal_text}
 use Rattle.harl.specs.Message.{Wrote}
-use Rattle.tables.specs.Tables.{Tables, performed, Performed}
+use Rattle.tables.specs.Tables.{Tables, Performed}
 use Rattle.model.specs.Box.{respond}
 use Rattle.gateway.specs.Serving.{BodyServed}
 use Rattle.harl.proofs.Accepted.{accepted_in_range}
@@ -46,17 +44,20 @@ module _ {k s : ℕ} {slice : List ℕ} {t : Tables} {xs ys : List ℕ} {m : ℕ
       }
 
 pub perform_parsed-outcome-requires : goal.perform_parsed-outcome-requires
-perform_parsed-outcome-requires c =
-    ((c.requires.0.0, accepted_in_range _ _ (body_judged c.args.slice.now _ c.read_body-read.result c.read_body-read.ensures c.in-Accepted.is)), c.requires.1.0)
+perform_parsed-outcome-requires g c = (
+  c.requires.0,
+  ((c.requires.1.0.0, accepted_in_range _ _ (body_judged c.args.slice.now c.read_body-read.new.texts c.read_body-read.result c.read_body-read.ensures c.in-Accepted.is)), c.requires.1.1.0),
+)
 
 pub put_reply-length-requires : goal.put_reply-length-requires
-put_reply-length-requires c =
-    c.requires.0.1
+put_reply-length-requires g c =
+    c.requires.1.0.1
 
 pub returns-in-Accepted : goal.returns-in-Accepted
-returns-in-Accepted c =
-    asked_served c.requires.0.1 (body_judged c.args.slice.now _ c.read_body-read.result c.read_body-read.ensures c.in-Accepted.is) c.perform_parsed-outcome.ensures c.number_in.ensures c.put_reply-length.ensures
+returns-in-Accepted g c =
+    asked_served c.requires.1.0.1 (body_judged c.args.slice.now c.read_body-read.new.texts c.read_body-read.result c.read_body-read.ensures c.in-Accepted.is) c.perform_parsed-outcome.ensures c.number_in.ensures c.put_reply-length.ensures
 
 pub returns-in-Refused : goal.returns-in-Refused
-returns-in-Refused c =
-    refused_served c.requires.0.1 (body_judged c.args.slice.now _ c.read_body-read.result c.read_body-read.ensures c.in-Refused.is, body_refused c.args.slice.now _ c.read_body-read.result c.read_body-read.ensures c.in-Refused.is) c.put_refused-length.ensures
+returns-in-Refused g c =
+    rw (← c.requires.0)
+    (refused_served c.requires.1.0.1 (body_judged c.args.slice.now c.read_body-read.new.texts c.read_body-read.result c.read_body-read.ensures c.in-Refused.is, body_refused c.args.slice.now c.read_body-read.new.texts c.read_body-read.result c.read_body-read.ensures c.in-Refused.is) c.put_refused-length.ensures)

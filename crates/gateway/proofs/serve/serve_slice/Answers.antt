@@ -1,4 +1,3 @@
--- `f` is where the frame was read, `l` where its station was looked up, and `b` where its body was served.
 use Prim.Native.Nat.{ℕ, ◌<◌}
 use mathlib.Core.Path.{◌≡◌, refl, sym, ◌∙◌}
 use mathlib.Core.Bool.{true}
@@ -23,9 +22,7 @@ use Rattle.gateway.proofs.serve.serve_slice.Goals as goal
 -- ---- where a station was found
 
 found_at : (f : Slot) (k : ℕ) → as_found f ≡ found.At k → f ≡ at k
-
 found_at nowhere k e = let z : ◌≡◌ {A = ℕ} 0 1 = cc in absurd (omega arith)
-
 found_at (at j) k e = cc
 
 found_none : (f : Slot) → as_found f ≡ found.Nowhere → f ≡ nowhere
@@ -64,8 +61,11 @@ returns-then-number-ne0 c =
 pub serve_body-requires : goal.serve_body-requires
 serve_body-requires c =
     let h = room_is (length c.args.programs.now) (length c.args.reply.now) c.requires in (
-      (within c.args.stations.now c.read_frame-body.new.1.1.0 c.in-At.slot (sym c.find_slot-found.ensures ∙ c.in-At.is), h.0),
-      (h.1, (sym c.read_frame-body.ensures.read.number_is ∙ c.if-number-ne0.false, c.read_frame-body.ensures.read.body_is)),
+      search rules,
+      (
+        (within c.args.stations.now c.read_frame-body.new.station c.in-At.slot (sym c.find_slot-found.ensures ∙ c.in-At.is), h.0),
+        (h.1, (sym c.read_frame-body.ensures.read.number_is ∙ c.if-number-ne0.false, c.read_frame-body.ensures.read.body_is)),
+      ),
     )
 
 pub returns-in-At : goal.returns-in-At

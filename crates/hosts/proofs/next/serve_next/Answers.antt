@@ -1,7 +1,4 @@
--- `d` is where the port was chosen.
 use mathlib.Core.Path.{refl, sym, ◌∙◌}
-use borrow.Author.Rules.{rules}
-use borrow.Author.Tests.{not-true, not-false}
 use lib.ListN.{length}
 use Rattle.chooser.proofs.Picks.{none_idle}
 use Rattle.harl.proofs.Laws.{wrote_none}
@@ -22,7 +19,7 @@ returns-then-port-eq-NONE c =
 -- one does, and there is no room
 pub returns-then-not-has_room : goal.returns-then-not-has_room
 returns-then-not-has_room c =
-    let e = sym c.has_room.ensures ∙ not-true _ c.if-not-has_room.true in
+    let e = sym c.has_room.ensures ∙ c.if-not-has_room.true in
     record {
       port_is = c.choose-slice.ensures.port_is;
       turn_is = c.choose-slice.ensures.turn_is;
@@ -32,7 +29,7 @@ returns-then-not-has_room c =
 
 pub serve_told-told-requires : goal.serve_told-told-requires
 serve_told-told-requires c =
-    sym c.has_room.ensures ∙ not-false _ c.if-not-has_room.false
+    sym c.has_room.ensures ∙ c.if-not-has_room.false
 
 -- one is served
 pub returns : goal.returns

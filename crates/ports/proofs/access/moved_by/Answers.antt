@@ -1,6 +1,5 @@
 use native.Mathlib.Omega.{arith}
 use lib.Count.{ones-le}
-use borrow.Author.Rules.{rules}
 use Rattle.ports.proofs.access.moved_by.Goals as goal
 
 pub overflow_add-result : goal.overflow_add-result
@@ -13,4 +12,4 @@ overflow_add-result-2 c =
 
 pub overflow_sub-result : goal.overflow_sub-result
 overflow_sub-result c =
-    omega (arith, ones-le 8 c.args c.ranges.fits)
+    omega (arith, ones-le 8 c.args.before c.ranges.before.fits)

@@ -1,5 +1,4 @@
 use mir.Facts.{to_z-of_z}
-use borrow.Author.Rules.{rules}
 use Rattle.ports.proofs.access.store_bit.Goals as goal
 
 pub returns : goal.returns

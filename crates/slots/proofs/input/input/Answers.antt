@@ -1,12 +1,11 @@
 -- Each way out is a decision of the model: two refuse the call, the last puts the byte.
 use Prim.Native.Nat.{ℕ}
 use mathlib.Core.Path.{◌≡◌, sym, ◌∙◌}
-use mathlib.Core.Bool.{true, false}
 use borrow.Author.Rules.{rules}
-use borrow.Author.Tests.{not-true, not-false, lt-ltb, le-ltb}
+use borrow.Author.Tests.{lt-ltb, le-ltb}
 use Rattle.tables.specs.Tables.{with_inputs, set2}
 use Rattle.model.specs.Call.{input}
-use Rattle.model.specs.Box.{Box, unanswered, input_set, is_fitted, decide, decide_on, perform, respond, after, answer}
+use Rattle.model.specs.Box.{Box, unanswered, input_set, decide, decide_on, perform, respond, after, answer}
 use Rattle.model.proofs.Slots.{fitted_is}
 use Rattle.slots.specs.Entries.{InputSet}
 use Rattle.slots.proofs.input.input.Goals as goal
@@ -19,32 +18,25 @@ puts : (b : Box) (k p v : ℕ) → decide_on b (input k p v) ≡ input_set k p v
 unfolding perform respond after answer
 puts b k p v e = record { number_is = rw e; tables_are = rw e }
 
--- the test of the slot, where it is passed and where it is not
-fitted : (c : tie.Else1) → is_fitted c.before.before.args.stations.now c.before.before.args.slot ≡ true
-fitted c = sym c.before.is-fitted.ensures ∙ not-false _ c.if1.false
-
-unfitted : (c : tie.Then1) → is_fitted c.before.before.args.stations.now c.before.before.args.slot ≡ false
-unfitted c = sym c.before.is-fitted.ensures ∙ not-true _ c.if1.true
-
 pub returns-then-not-is_fitted : goal.returns-then-not-is_fitted
 unfolding decide
 returns-then-not-is_fitted c =
-    λ m. turns_away _ _ _ _ (rw (unfitted c))
+    λ m. turns_away _ _ _ _ (rw (sym c.is_fitted.ensures ∙ c.if-not-is_fitted.true))
 
 pub returns-then-p-gt31 : goal.returns-then-p-gt31
 unfolding decide
 returns-then-p-gt31 c =
-    λ m. turns_away _ _ _ _ (rw (fitted c, lt-ltb _ _ c.if-p-gt31.true))
+    λ m. turns_away _ _ _ _ (rw ((sym c.is_fitted.ensures ∙ c.if-not-is_fitted.false), lt-ltb _ _ c.if-p-gt31.true))
 
 pub offset_bounds-inputs-slot : goal.offset_bounds-inputs-slot
 offset_bounds-inputs-slot c =
-    let l = fitted_is _ _ (fitted c) in search rules
+    let l = fitted_is _ _ (sym c.is_fitted.ensures ∙ c.if-not-is_fitted.false) in search rules
 
 pub bounds-inputs-slot : goal.bounds-inputs-slot
 bounds-inputs-slot c =
-    let l = fitted_is _ _ (fitted c) in search rules
+    let l = fitted_is _ _ (sym c.is_fitted.ensures ∙ c.if-not-is_fitted.false) in search rules
 
 pub returns : goal.returns
 unfolding decide
 returns c =
-    λ m. puts _ _ _ _ (rw (fitted c, le-ltb _ _ c.if-p-gt31.false))
+    λ m. puts _ _ _ _ (rw ((sym c.is_fitted.ensures ∙ c.if-not-is_fitted.false), le-ltb _ _ c.if-p-gt31.false))

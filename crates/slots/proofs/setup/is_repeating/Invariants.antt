@@ -1,14 +1,7 @@
 -- The invariant: what is asked of the four slots is what is asked of those from i on.
-use Prim.Native.Nat.{◌+◌, ◌-◌}
-use mathlib.Core.Path.{◌≡◌, refl, sym, ◌∙◌}
-use mathlib.Core.Logic.{⊎_elim}
-use native.Mathlib.Omega.{arith}
-use borrow.Author.Rules.{rules}
-use borrow.Author.Tests.{eq-eqb, ne_eqb}
-use borrow.Kind.Array.{e_int, good_length}
-use mir.Syntax.{w16}
+use Prim.Native.Nat.{◌-◌}
+use mathlib.Core.Path.{◌≡◌}
 use lib.ListN.{length, drop}
-use Rattle.text.proofs.Laws.{here, over}
 use Rattle.model.specs.Setup.{repeats}
 use Rattle.slots.proofs.setup.is_repeating.Given as goal
 

@@ -1,5 +1,4 @@
 use mathlib.Core.Path.{sym}
-use borrow.Author.Rules.{rules}
 use borrow.Author.Tests.{eq-eqb, ne_eqb}
 use Rattle.model.specs.Setup.{setup_number, setup_refusal}
 use Rattle.slots.proofs.setup.judge_setup.Goals as goal

@@ -1,4 +1,3 @@
-use borrow.Author.Rules.{rules}
 use borrow.Author.Tests.{lt-ltb, le-ltb}
 use Rattle.model.specs.Box.{is_fitted}
 use Rattle.slots.proofs.slot.is_fitted.Goals as goal

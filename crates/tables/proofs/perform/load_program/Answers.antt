@@ -2,7 +2,6 @@ use Prim.Native.Nat.{ℕ}
 use mathlib.Core.Path.{◌≡◌, refl, sym, ap, ◌∙◌}
 use mathlib.Core.List.{List, [], ◌∷◌}
 use native.Mathlib.Omega.{arith}
-use borrow.Author.Rules.{rules}
 use Rattle.steps.specs.declared.step.Step.{Step}
 use Rattle.programs.specs.declared.memory.Found.{Found}
 use Rattle.programs.specs.declared.memory.Found.TheVariants as found

@@ -72,13 +72,13 @@ pub returns-in-Timer : goal.returns-in-Timer
 unfolding loaded
 returns-in-Timer c =
     λ on. rw c.in-Timer.is
-    (ap (λ v. outcome.Data (held.Timer v)) (to_z-of_z {w = w32} (record { sfits = c.load_word.type-inv }) ∙ c.load_word.ensures))
+    (ap (λ v. outcome.Data (held.Timer v)) (to_z-of_z {w = w32} (record { sfits = c.load_word.type_inv }) ∙ c.load_word.ensures))
 
 pub returns-in-Register : goal.returns-in-Register
 unfolding loaded
 returns-in-Register c =
     λ on. rw c.in-Register.is
-    (ap (λ v. outcome.Data (held.Register v)) (to_z-of_z {w = w32} (record { sfits = c.load_word-in-Register.type-inv }) ∙ c.load_word-in-Register.ensures))
+    (ap (λ v. outcome.Data (held.Register v)) (to_z-of_z {w = w32} (record { sfits = c.load_word-in-Register.type_inv }) ∙ c.load_word-in-Register.ensures))
 
 pub returns-in-Row : goal.returns-in-Row
 unfolding loaded
