@@ -5,13 +5,17 @@
 // they are 1 2 3 4.
 #![tactic(auto)]
 
-ghost use Rattle.std.specs.Prelude.{◌*◌, ◌≤◌, length};
+ghost use Rattle.std.specs.Prelude.{◌*◌, ◌≤◌, length, IfOk};
 ghost use Rattle.io.specs.Counts.{IsPrefixLen};
 
-use libc::{STDERR_FILENO, STDIN_FILENO, STDOUT_FILENO};
 use link::arrived::serve_arrived;
 use slots::setup::setup;
+use std::env::{Env, FillError};
+use std::io::{Read, Result, Write};
 use text::whole::{Whole, read_whole};
+
+// The descriptor of standard error.
+const STDERR_FILENO: i32 = 2;
 
 // What an argument is: a number, or any other text.
 #[derive(Clone, Copy)]
@@ -45,54 +49,53 @@ fn read_number(text: &[u8]) -> Argument {
     }
 }
 
-// The number that argument i is. One that is longer than any station is read as an empty text.
-fn read_argument(i: usize) -> Argument {
+// What argument i is; none where it is missing. One that is longer than any station is no number.
+fn read_argument(rt: &HostRuntime, i: usize) -> Option<Argument> {
     let mut text = [0u8; 8];
-    let n = os::arg(i, &mut text);
-    read_number(&text[..n])
+    match rt.arg(i, &mut text) {
+        Ok(n) => Some(read_number(&text[..n])),
+        Err(FillError::TooLong) => Some(Argument::Other),
+        Err(FillError::NotPresent) => None,
+    }
 }
 
 // Reads the stations from the arguments, and returns whether they are numbers, and not too many.
-fn read_stations(want: &mut [u16; 4]) -> bool {
-    let n = os::arg_count();
-    if n < 2 {
+fn read_stations(rt: &HostRuntime, want: &mut [u16; 4]) -> bool {
+    if read_argument(rt, 1).is_none() {
         *want = [1, 2, 3, 4];
         return true;
     }
-    if 5 < n {
+    if read_argument(rt, 5).is_some() {
         complain(b"more than four arguments");
         return false;
     }
-    let mut i = 1;
-    while i < n {
-        let argument = read_argument(i);
-        match argument {
-            Argument::Number(v) => {
-                want[i - 1] = v;
+    for i in 0..4 {
+        match read_argument(rt, i + 1) {
+            Some(Argument::Number(v)) => {
+                want[i] = v;
             }
-            Argument::Other => {
+            Some(Argument::Other) => {
                 complain(b"an argument is no number of one to four digits");
                 return false;
             }
+            None => {
+                return true;
+            }
         }
-        i += 1;
     }
     true
 }
 
-// Reads what has arrived, and returns how many bytes: none at the input's end, and where reading fails.
-fn read_block(input: &mut [u8]) -> usize
-    ensures { IsPrefixLen result input.new }
+// Reads what has arrived, and returns how many bytes: none at the input's end.
+fn read_block(rt: &HostRuntime, input: &mut [u8]) -> Result<usize>
+    ensures { IfOk result (λ n. IsPrefixLen n input.new) }
 {
-    let got = libc::read(STDIN_FILENO, input);
-    if got < 0 {
-        os::fail(b"line: standard input");
-    }
-    io::count(got, input)
+    rt.stdin().read(input)
 }
 
 // Reads once, serves what has arrived, and writes the replies. Returns whether the line goes on.
 fn serve_some(
+    rt: &HostRuntime,
     timers: &mut [[u16; 16]; 4],
     registers: &mut [[u16; 64]; 4],
     x: &mut [[i32; 100]; 4],
@@ -109,12 +112,12 @@ fn serve_some(
     count: &mut u8,
     input: &mut [u8],
     out: &mut [u8],
-) -> bool
+) -> Result<bool>
     requires { 64 * length input.old ≤ length out.old }
 {
-    let n = read_block(input);
+    let n = read_block(rt, input)?;
     if n == 0 {
-        return false;
+        return Ok(false);
     }
     let length = serve_arrived(
         timers,
@@ -134,16 +137,14 @@ fn serve_some(
         &input[..n],
         out,
     );
-    if io::write_all(STDOUT_FILENO, &out[..length]) {
-        return true;
-    }
-    os::fail(b"line: standard output");
-    false
+    rt.stdout().write_all(&out[..length])?;
+    Ok(true)
 }
 
 // Serves the line to its end. A proved loop has to end, and nothing says that the line does, so the reads are counted down
 // from a number that no run uses up.
 fn serve_line(
+    rt: &HostRuntime,
     timers: &mut [[u16; 16]; 4],
     registers: &mut [[u16; 64]; 4],
     x: &mut [[i32; 100]; 4],
@@ -158,7 +159,7 @@ fn serve_line(
     stations: &[u8; 4],
     input: &mut [u8],
     out: &mut [u8],
-)
+) -> Result<()>
     requires { 64 * length input.old ≤ length out.old }
 {
     let mut held = [0u8; 255];
@@ -166,21 +167,22 @@ fn serve_line(
     let mut reads = u64::MAX;
     while 0 < reads {
         let more = serve_some(
-            timers, registers, x, y, z, w, inputs, outputs, memory, on, programs, stations,
+            rt, timers, registers, x, y, z, w, inputs, outputs, memory, on, programs, stations,
             &mut held, &mut count, input, out,
-        );
+        )?;
         if !more {
-            return;
+            return Ok(());
         }
         reads -= 1;
     }
+    Ok(())
 }
 
 // Sets up the stations of the arguments, and serves the line.
-fn main() {
+fn main(rt: HostRuntime) -> Result<()> {
     let mut want = [0u16; 4];
-    if !read_stations(&mut want) {
-        return;
+    if !read_stations(&rt, &mut want) {
+        return Ok(());
     }
     let mut timers = [[0u16; 16]; 4];
     let mut registers = [[0u16; 64]; 4];
@@ -213,11 +215,12 @@ fn main() {
     );
     if refused != 0 {
         complain(b"a station is above 99, or given twice");
-        return;
+        return Ok(());
     }
     let mut input = [0u8; 1024];
     let mut out = io::large_buffer();
     serve_line(
+        &rt,
         &mut timers,
         &mut registers,
         &mut x,
@@ -232,5 +235,5 @@ fn main() {
         &stations,
         &mut input[..],
         &mut out[..],
-    );
+    )
 }
