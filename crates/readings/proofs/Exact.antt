@@ -3,14 +3,14 @@ use Prim.Native.Nat.{ℕ, zero, suc, ◌+◌, ◌-◌, ◌*◌, ◌/◌, ◌^◌
 use mathlib.Core.Path.{◌≡◌, refl, sym, ap, ◌∙◌, subst}
 use mathlib.Core.Bool.{Bool, true, false, not, cond, beq, true≢false}
 use mathlib.Core.Logic.{◌⊎◌, inl, inr}
-use native.Mathlib.Nat.{mul-one, mul_comm, mul_assoc, mul-pos, lt_of_lt_of_le, eq-or-lt_of_le, zero-lt-suc}
+use native.Mathlib.Nat.{mul_comm, mul_assoc, mul-pos, lt_of_lt_of_le, eq-or-lt_of_le, zero-lt-suc}
 use native.Mathlib.Omega.{arith}
 use lib.IntN.{ℤ, pos, negsuc, nat_abs}
-use lib.Dec.{T, ltb, leb, lt→ltb, le→leb, lit≤}
+use lib.Dec.{T, ltb, lt→ltb, le→leb, lit≤}
 use borrow.Author.Tests.{ltb-true, ltb-false}
 use lib.Pow.{pow-add, pow_mono, shl_lt}
-use lib.Signed.{mag, non_neg}
-use lib.Ieee.{Float, nan, inf, fin, Format, binary64, prec, low, emax, up, down, size, units, odd, round, neg, le, div, of_int, of_bits, of_fields, span, climb, to_signed, in_float}
+use lib.Signed.{non_neg}
+use lib.Ieee.{Float, nan, inf, fin, Format, binary64, prec, low, emax, up, down, size, units, odd, round, neg, le, div, of_int, of_bits, of_fields, span, climb, in_float}
 use lib.Ieee.Fits.{down_pos, round_is}
 use lib.Ieee.Exact.{HasValue, round_exact}
 use lib.Ieee.Back.{round_whole, positive_back, negative_back}
@@ -20,7 +20,7 @@ use lib.Ieee.Order.{round_mono}
 use lib.Ieee.Positive.{positive, between, positive_of_value, values_of_le, le_trans_positive}
 use lib.Count.{count_trailing_zeros}
 use Rattle.readings.specs.Double.{double, hundred, from_hundredths}
-use Rattle.readings.specs.Exact.{Datum, Exact, Lossless, RoundedOnce, PlusZero, Signs, Distinct}
+use Rattle.readings.specs.Exact.{Datum, Lossless, RoundedOnce, PlusZero, Signs, Distinct}
 
 -- ---- whole numbers
 

@@ -3,19 +3,18 @@ use Prim.Native.Nat.{ℕ}
 use mathlib.Core.Path.{◌≡◌, refl}
 use mathlib.Core.Bool.{Bool, true, false, cond}
 use mathlib.Core.List.{List}
-use mathlib.Core.Logic.{◌⊎◌, inl, inr}
+use mathlib.Core.Logic.{inl, inr}
 use mathlib.Core.Option.{Option, none, some}
 use lib.Dec.{eqb}
 use lib.ListN.{length, get_or, drop}
 use Rattle.text.specs.Whole.{read_whole}
 use Rattle.frame.specs.Fields.{fields}
-use Rattle.frame.specs.Frame.{Reading, read_frame, frame_position}
+use Rattle.frame.specs.Frame.{read_frame, frame_position}
 use Rattle.commands.specs.declared.table.Kind.TheVariants as kind
 use Rattle.commands.specs.declared.table.Form.{Form}
 use Rattle.commands.specs.declared.table.Form.TheVariants.{Numbers, Texts}
 use Rattle.commands.specs.declared.table.Rule.{Rule}
 use Rattle.commands.specs.declared.request.Payload.{Payload}
-use Rattle.commands.specs.declared.request.Request.{Request}
 use Rattle.commands.specs.Request.{parts_of}
 use Rattle.reply_reader.specs.declared.reader.Carried.{Carried}
 use Rattle.reply_reader.specs.declared.reader.Carried.TheVariants as carried
@@ -24,7 +23,7 @@ use Rattle.replies.specs.declared.reply.Outcome.TheVariants as outcome
 use Rattle.reply_reader.specs.Reader.{data_of, as_status, read_status, read_content, as_data, read_load_outcome, read_outcome}
 use Rattle.harl.specs.Message.{ReplyReading, rule_for, judge_asked, from_carried, reply_in, no_outcome, read_reply}
 use Rattle.readings.specs.Reply.{converted}
-use Rattle.untyped.specs.Answers.{kind_of, kind_for, Answers, KindsAsked}
+use Rattle.untyped.specs.Answers.{Answers, KindsAsked}
 
 -- ---- what is read of a body
 

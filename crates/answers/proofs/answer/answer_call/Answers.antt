@@ -1,9 +1,8 @@
 -- The reply area has 64 bytes, so the line of an answer has at most 132.
 use Prim.Native.Nat.{ℕ, ◌+◌, ◌≤◌}
-use mathlib.Core.Path.{◌≡◌, refl, sym}
+use mathlib.Core.Path.{◌≡◌, refl}
 use mathlib.Core.List.{List}
 use native.Mathlib.Omega.{arith}
-use borrow.Author.Rules.{rules}
 use lib.ListN.{length, take}
 use lib.Seq.{length-take-le, length-sets}
 use Rattle.text.specs.Put.{PutAt}
@@ -40,14 +39,6 @@ module _ {b : Box} {slice xs ys : List ℕ} {sent : Sent} {t : Tables} (room : l
         tables_are = rw room at s.tables_are;
         short = omega (arith, p.next, line_fits sent.number 0 132 (omega arith));
       }
-
-pub slice_bounds-reply-end : goal.slice_bounds-reply-end
-slice_bounds-reply-end c =
-    within refl c.serve-sent.ensures
-
-pub slice_bounds-put_answer-end : goal.slice_bounds-put_answer-end
-slice_bounds-put_answer-end c =
-    sym (length-take-le _ _ (within refl c.serve-sent.ensures))
 
 pub put_answer-requires : goal.put_answer-requires
 put_answer-requires c =

@@ -2,7 +2,6 @@ use Prim.Native.Nat.{ℕ, ◌+◌, ◌-◌, ◌≤◌, ◌<◌}
 use mathlib.Core.Path.{◌≡◌, sym, ap, ◌∙◌}
 use mathlib.Core.List.{List, ◌++◌}
 use native.Mathlib.Omega.{arith}
-use borrow.Author.Rules.{rules}
 use lib.ListN.{length, take, length-append}
 use lib.Seq.{length-take-le, take_all, take-append-add}
 use Rattle.text.specs.Put.{PutAt}
@@ -26,14 +25,6 @@ module _ (held s : List ℕ) (n : ℕ) (h : (length held ≡ 513) × (n ≤ 513)
   whole {held'} {r} l p =
       let b : r ≤ 513 = omega (arith, p.next, h.1) in
       (put_behind p (omega (arith, h.0)) ∙ sym (take_all 513 (take n held ++ s) (omega (arith, length-append (take n held) s, count, h.1))), b)
-
-pub slice_bounds-put_bytes-end : goal.slice_bounds-put_bytes-end
-slice_bounds-put_bytes-end c =
-    sym (length-take-le (513 - c.args.n) c.args.s.now (omega arith))
-
-pub put_bytes-requires : goal.put_bytes-requires
-put_bytes-requires c =
-    omega (arith, length-take-le (513 - c.args.n) c.args.s.now (omega arith), c.requires.0, c.requires.1)
 
 pub returns-then-room-s : goal.returns-then-room-s
 returns-then-room-s c =

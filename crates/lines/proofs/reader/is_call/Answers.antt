@@ -1,9 +1,7 @@
-use Prim.Native.Nat.{◌-◌, ◌≤◌}
-use mathlib.Core.Path.{◌≡◌, refl, ◌∙◌}
+use mathlib.Core.Path.{◌∙◌}
 use native.Mathlib.Omega.{arith}
 use borrow.Author.Tests.{le-leb, lt-leb, eq-eqb, ne_eqb}
-use lib.ListN.{length, drop}
-use Rattle.lines.specs.Lines.{is_call, all_capitals}
+use Rattle.lines.specs.Lines.{is_call}
 use Rattle.lines.proofs.Laws.{capitals_pass, capitals_stop, capitals_end}
 use Rattle.lines.proofs.reader.is_call.Goals as goal
 
@@ -16,14 +14,6 @@ pub returns-then-line-ne0 : goal.returns-then-line-ne0
 unfolding is_call
 returns-then-line-ne0 c =
     simp (le-leb _ _ c.if-line-gt512.false, ne_eqb _ _ c.if-line-ne0.true)
-
-pub loop-i-init : goal.loop-i-init
-loop-i-init c =
-    (omega arith, refl)
-
-pub value_of-requires : goal.value_of-requires
-value_of-requires c =
-    tt
 
 pub returns-then-value_of-ge16 : goal.returns-then-value_of-ge16
 unfolding is_call

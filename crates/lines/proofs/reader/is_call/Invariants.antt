@@ -1,11 +1,8 @@
 -- The invariant: every character passed was a capital.
 use Prim.Native.Nat.{◌-◌, ◌≤◌}
-use mathlib.Core.Path.{◌≡◌, refl, ◌∙◌}
-use native.Mathlib.Omega.{arith}
-use borrow.Author.Tests.{le-leb, lt-leb, eq-eqb, ne_eqb}
+use mathlib.Core.Path.{◌≡◌}
 use lib.ListN.{length, drop}
-use Rattle.lines.specs.Lines.{is_call, all_capitals}
-use Rattle.lines.proofs.Laws.{capitals_pass, capitals_stop, capitals_end}
+use Rattle.lines.specs.Lines.{all_capitals}
 use Rattle.lines.proofs.reader.is_call.Given as goal
 
 abbrev pub invariant-loop-i : goal.invariant-loop-i

@@ -1,20 +1,10 @@
-use Prim.Native.Nat.{◌+◌, ◌*◌, ◌-◌, ◌≤◌}
-use mathlib.Core.Path.{◌≡◌, refl, sym, ap, ◌∙◌}
+use Prim.Native.Nat.{◌+◌}
+use mathlib.Core.Path.{sym, ap, ◌∙◌}
 use native.Mathlib.Omega.{arith}
 use native.Mathlib.Numerals.{add-one}
-use lib.ListN.{length, drop}
-use lib.Seq.{sets}
-use Rattle.lines.specs.Lines.{slice_of}
+use lib.ListN.{length}
 use Rattle.lines.proofs.Laws.{call_is, digit_at, slice_more, slice_end}
 use Rattle.lines.proofs.reader.put_slice.Goals as goal
-
-pub loop-i-init : goal.loop-i-init
-loop-i-init c =
-    (omega arith, (omega arith, (omega arith, refl)))
-
-pub value_of-requires : goal.value_of-requires
-value_of-requires c =
-    tt
 
 pub overflow_mul-slice : goal.overflow_mul-slice
 overflow_mul-slice c =
@@ -25,10 +15,6 @@ pub bounds-line-low : goal.bounds-line-low
 bounds-line-low c =
     let k = call_is c.args.line.now c.requires in
     omega arith
-
-pub value_of-requires-in-loop-i : goal.value_of-requires-in-loop-i
-value_of-requires-in-loop-i c =
-    tt
 
 pub overflow_add-slice : goal.overflow_add-slice
 overflow_add-slice c =
@@ -44,7 +30,7 @@ pub loop-i-preserved : goal.loop-i-preserved
 loop-i-preserved c =
     let k = call_is c.args.line.now c.requires in
     let m = slice_more c.args.line.now c.loop-i.i (omega arith) in
-    (omega arith, (omega arith, (omega (arith, ap length m), c.loop-i.invariant.1.1.1 ∙ rw (m, c.value_of-in-loop-i.ensures, c.value_of_lem.ensures, add-one c.loop-i.n))))
+    (omega arith, (omega arith, (omega (arith, ap length m), c.loop-i.invariant.1.1.1 ∙ rw (m, c.value_of.ensures, c.value_of-in-loop-i.ensures, add-one c.loop-i.n))))
 
 pub returns : goal.returns
 returns c =

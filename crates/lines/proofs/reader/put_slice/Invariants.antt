@@ -1,12 +1,9 @@
 -- The invariant: what is left of the line, written at n of the lent bytes as they are now, gives what all of it gives.
 use Prim.Native.Nat.{◌+◌, ◌*◌, ◌-◌, ◌≤◌}
-use mathlib.Core.Path.{◌≡◌, refl, sym, ap, ◌∙◌}
-use native.Mathlib.Omega.{arith}
-use native.Mathlib.Numerals.{add-one}
+use mathlib.Core.Path.{◌≡◌}
 use lib.ListN.{length, drop}
 use lib.Seq.{sets}
 use Rattle.lines.specs.Lines.{slice_of}
-use Rattle.lines.proofs.Laws.{call_is, digit_at, slice_more, slice_end}
 use Rattle.lines.proofs.reader.put_slice.Given as goal
 
 abbrev pub invariant-loop-i : goal.invariant-loop-i

@@ -1,11 +1,6 @@
 use mathlib.Core.Path.{sym, ◌∙◌}
-use borrow.Author.Rules.{rules}
 use Rattle.lines.specs.Lines.{line_of, held_after}
 use Rattle.lines.proofs.reader.read_line.Goals as goal
-
-pub put_slice-n-requires : goal.put_slice-n-requires
-put_slice-n-requires c =
-    sym c.is_call.ensures ∙ c.if-is_call.true
 
 pub returns-then-is_call : goal.returns-then-is_call
 unfolding line_of held_after

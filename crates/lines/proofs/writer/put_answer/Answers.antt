@@ -1,5 +1,4 @@
 use native.Mathlib.Omega.{arith}
-use borrow.Author.Rules.{rules}
 use Rattle.text.proofs.Laws.{put_at, put_at_then}
 use Rattle.text.proofs.Digits.{two_length}
 use Rattle.lines.specs.Lines.{answer_line}

@@ -1,28 +1,13 @@
-use Prim.Native.Nat.{suc, ◌+◌, ◌-◌, ◌≤◌}
-use mathlib.Core.Path.{◌≡◌, refl, sym, ap, ◌∙◌}
+use Prim.Native.Nat.{suc, ◌+◌}
+use mathlib.Core.Path.{◌≡◌, sym, ap, ◌∙◌}
 use native.Mathlib.Omega.{arith}
 use native.Mathlib.Numerals.{add-one}
-use lib.ListN.{length, drop, length-set}
-use lib.Seq.{sets}
-use Rattle.lines.specs.Lines.{hex_text}
+use lib.ListN.{length, length-set}
 use Rattle.lines.proofs.Laws.{hex_more, hex_end}
 use Rattle.lines.proofs.writer.put_hex.Goals as goal
 
-pub loop-i-init : goal.loop-i-init
-loop-i-init c =
-    (omega arith, (omega arith, (refl, refl)))
-
-pub capital_of-requires : goal.capital_of-requires
-capital_of-requires c =
-    omega (arith, c.shared_slice_known-in-loop-i-1.given c.loop-i.i)
-
 pub bounds-out-p : goal.bounds-out-p
 bounds-out-p c =
-    let m = hex_more c.args.s.now c.loop-i.i (omega arith) in
-    omega (arith, ap length m)
-
-pub overflow_add-p : goal.overflow_add-p
-overflow_add-p c =
     let m = hex_more c.args.s.now c.loop-i.i (omega arith) in
     omega (arith, ap length m)
 

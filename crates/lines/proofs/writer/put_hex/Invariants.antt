@@ -1,12 +1,9 @@
 -- The invariant: what is left of s, written at p of the area as it is now, gives what all of s gives.
-use Prim.Native.Nat.{suc, ◌+◌, ◌-◌, ◌≤◌}
-use mathlib.Core.Path.{◌≡◌, refl, sym, ap, ◌∙◌}
-use native.Mathlib.Omega.{arith}
-use native.Mathlib.Numerals.{add-one}
-use lib.ListN.{length, drop, length-set}
+use Prim.Native.Nat.{◌+◌, ◌-◌, ◌≤◌}
+use mathlib.Core.Path.{◌≡◌}
+use lib.ListN.{length, drop}
 use lib.Seq.{sets}
 use Rattle.lines.specs.Lines.{hex_text}
-use Rattle.lines.proofs.Laws.{hex_more, hex_end}
 use Rattle.lines.proofs.writer.put_hex.Given as goal
 
 abbrev pub invariant-loop-i : goal.invariant-loop-i

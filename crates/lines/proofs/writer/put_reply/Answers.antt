@@ -1,6 +1,5 @@
 use mathlib.Core.Path.{ap}
 use native.Mathlib.Omega.{arith}
-use borrow.Author.Rules.{rules}
 use lib.ListN.{length}
 use Rattle.text.proofs.Laws.{put_at, put_at_none, put_at_then}
 use Rattle.lines.proofs.Laws.{reply_none, reply_some}

@@ -1,19 +1,11 @@
 -- The invariant: i bytes are served, and a reply to each byte that is left has room; the lent memory is as long as it was.
--- `e` is the entry, `l` the loop, `k` what serve_next promised, and `w` how far that got.
-use Prim.Native.Nat.{ℕ, ◌+◌, ◌*◌, ◌-◌, ◌≤◌, ◌<◌}
-use mathlib.Core.Path.{◌≡◌, refl, ap, ◌∙◌}
-use mathlib.Core.List.{List}
-use native.Mathlib.Omega.{arith}
-use borrow.Author.Rules.{rules}
-use lib.ListN.{length, take, drop, length-drop}
-use lib.Seq.{take-add, take_all}
-use Rattle.text.proofs.Laws.{rest}
-use Rattle.receiver.specs.Rule.{slices_from, held_from}
+use Prim.Native.Nat.{◌+◌, ◌*◌, ◌-◌, ◌≤◌}
+use mathlib.Core.Path.{◌≡◌}
+use lib.ListN.{length, take}
 use Rattle.receiver.specs.Receive.{held_in}
-use Rattle.tables.specs.Tables.{Tables, tables}
-use Rattle.model.specs.Box.{Box, box}
+use Rattle.tables.specs.Tables.{tables}
+use Rattle.model.specs.Box.{box}
 use Rattle.link.specs.Served.{LineServed}
-use Rattle.link.proofs.Laws.{none_served, served_then, area_length}
 use Rattle.link.proofs.arrived.serve_arrived.Given as goal
 
 abbrev pub invariant-loop-i : goal.invariant-loop-i

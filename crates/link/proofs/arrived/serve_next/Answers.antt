@@ -1,27 +1,24 @@
--- `e` is the entry, `g` what was received, and `s` what serving the slice promised.
-use mathlib.Core.Path.{sym}
 use native.Mathlib.Omega.{arith}
-use borrow.Author.Rules.{rules}
-use lib.Seq.{length-take-le}
 use Rattle.receiver.proofs.Got.{got_is}
-use Rattle.link.proofs.Laws.{none_served, reply_short, one_served}
+use Rattle.link.proofs.Laws.{none_served, one_served}
 use Rattle.link.proofs.arrived.serve_next.Goals as goal
 
-pub returns-then-n-eq0 : goal.returns-then-n-eq0
-returns-then-n-eq0 c =
+pub returns-then-n-eq0-clause-line_served : goal.returns-then-n-eq0-clause-line_served
+returns-then-n-eq0-clause-line_served c =
     let g = got_is c.args.held.now c.args.count.now c.args.arrived.now _ (omega arith) c.receive-got.ensures in
-    record { line_served = none_served (g.no_slice c.if-n-eq0.true) g.held_is; taken_in_bounds = (g.within, g.some); at_bound = omega arith }
+    none_served (g.no_slice c.if-n-eq0.true) g.held_is
 
-pub slice_bounds-serve-end : goal.slice_bounds-serve-end
-slice_bounds-serve-end c =
+pub returns-then-n-eq0-clause-taken_in_bounds : goal.returns-then-n-eq0-clause-taken_in_bounds
+returns-then-n-eq0-clause-taken_in_bounds c =
     let g = got_is c.args.held.now c.args.count.now c.args.arrived.now _ (omega arith) c.receive-got.ensures in
-    sym (length-take-le _ _ (omega (arith, g.fits)))
+    (g.within, g.some)
 
-pub overflow_add-next : goal.overflow_add-next
-overflow_add-next c =
-    omega (arith, c.requires, c.well-formed.1.1.1.1.1.1.1.1.1.1.1.1.1.1.1.0.0, reply_short c.args.out.now c.args.at c.requires c.serve-sent.ensures)
-
-pub returns : goal.returns
-returns c =
+pub returns-clause-line_served : goal.returns-clause-line_served
+returns-clause-line_served c =
     let g = got_is c.args.held.now c.args.count.now c.args.arrived.now _ (omega arith) c.receive-got.ensures in
-    record { line_served = one_served c.args.out.now c.args.at c.requires c.serve-sent.ensures (g.slice c.if-n-eq0.false) g.held_is; taken_in_bounds = (g.within, g.some); at_bound = omega (arith, reply_short c.args.out.now c.args.at c.requires c.serve-sent.ensures) }
+    one_served c.args.out.now c.args.at c.requires c.serve-sent.ensures (g.slice c.if-n-eq0.false) g.held_is
+
+pub returns-clause-taken_in_bounds : goal.returns-clause-taken_in_bounds
+returns-clause-taken_in_bounds c =
+    let g = got_is c.args.held.now c.args.count.now c.args.arrived.now _ (omega arith) c.receive-got.ensures in
+    (g.within, g.some)

@@ -1,16 +1,9 @@
 -- The invariant: the state is that of the i bytes taken; the lent memory is as long as it was.
-use Prim.Native.Nat.{ℕ, ◌+◌, ◌-◌, ◌≤◌, ◌<◌}
-use mathlib.Core.Path.{◌≡◌, refl, ◌∙◌}
-use mathlib.Core.Bool.{true}
-use mathlib.Core.Logic.{inl, inr}
-use native.Mathlib.Omega.{arith}
-use borrow.Author.Rules.{rules}
-use borrow.Author.Tests.{leb-true, leb-false}
+use Prim.Native.Nat.{◌-◌, ◌≤◌}
+use mathlib.Core.Path.{◌≡◌}
 use lib.ListN.{length, take}
-use lib.Dec.{leb}
 use Rattle.tables.specs.Tables.{tables}
 use Rattle.stream.specs.Cell.{taken_all, cell_of, Within}
-use Rattle.stream.proofs.Laws.{part_length, part_within, part_taken}
 use Rattle.stream.proofs.input.take_block.Given as goal
 
 abbrev pub invariant-loop-i : goal.invariant-loop-i

@@ -1,6 +1,0 @@
-use borrow.Author.Rules.{rules}
-use Rattle.untyped.proofs.read.reply_numbers.Goals as goal
-
-pub returns-in-Refused : goal.returns-in-Refused
-returns-in-Refused c =
-    rw c.in-Refused.is
