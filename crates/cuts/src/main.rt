@@ -5,8 +5,7 @@
 
 ghost use Rattle.std.specs.Prelude.{◌≡◌, ◌<◌, ◌≤◌, length};
 
-use libc::STDIN_FILENO;
-use print::{front, put, put_bytes, put_whole};
+use print::{STDIN_FILENO, front, put, put_bytes, put_whole};
 use receiver::receive::receive;
 
 // What a call came to: where the bytes that are left begin, and the length of the slice that was finished, 0 for

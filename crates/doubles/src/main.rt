@@ -5,10 +5,9 @@
 
 use commands::request::Request;
 use harl::message::{Asked, read_request};
-use libc::STDIN_FILENO;
 use lines::reader::{Line, read_line};
 use print::texts::put_step;
-use print::{count, front, part, put, put_bits, put_position, put_two, put_whole};
+use print::{STDIN_FILENO, count, front, part, put, put_bits, put_position, put_two, put_whole};
 use readings::convert::{Converted, Reading};
 use readings::reply::{ReadReply, read_converted};
 

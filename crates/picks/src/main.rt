@@ -12,9 +12,8 @@
 use chooser::choose::{A, NONE, choose};
 use commands::request::Port;
 use hosts::next::serve_next;
-use libc::STDIN_FILENO;
 use lines::reader::{Line, read_line};
-use print::{count, front, part, put, put_bytes, put_two, put_whole, put_written};
+use print::{STDIN_FILENO, count, front, part, put, put_bytes, put_two, put_whole, put_written};
 use slots::count::{Count, outputs_on};
 use slots::input::input;
 use slots::setup::setup;

@@ -3,10 +3,9 @@
 #![tactic(auto)]
 
 use gateway::serve::serve;
-use libc::STDIN_FILENO;
 use lines::reader::{Line, read_line};
 use lines::writer::put_answer;
-use print::{front, put, put_position};
+use print::{STDIN_FILENO, front, put, put_position};
 use slots::setup::setup;
 
 // Serves a line, and prints its answer as `cell` does, with the position before its LF. A line that is no call has

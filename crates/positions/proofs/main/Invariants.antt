@@ -1,0 +1,11 @@
+-- The invariant: the buffer and the lent memory keep their length. The measure: the blocks left.
+use Prim.Native.Nat.{◌≤◌, ◌-◌}
+use mathlib.Core.Path.{◌≡◌}
+use lib.ListN.{length}
+use Rattle.positions.proofs.main.Given as goal
+
+abbrev pub invariant-loop : goal.invariant-loop
+invariant-loop l = (65536 ≡ length l.input) × ((40960 ≡ length l.programs) × (l.counter ≤ 18446744073709551615))
+
+abbrev pub decreases-loop : goal.decreases-loop
+decreases-loop l = 18446744073709551615 - l.counter
