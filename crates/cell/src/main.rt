@@ -10,10 +10,12 @@ ghost use Rattle.cell.specs.Block.{BlockTaken};
 
 use lines::collect::front;
 use slots::setup::setup;
+use std::io::Read;
 use stream::input::{Progress, answer_last, take_block};
 
 // The descriptors of standard input and standard output.
 const STDIN_FILENO: i32 = 0;
+
 const STDOUT_FILENO: i32 = 1;
 
 // Writes the waiting bytes out where fewer than 132 are free, which the longest answer has. Returns how many
@@ -51,8 +53,8 @@ fn answer_block(
     requires within { Within held.old out.old start }
     requires waiting_bound { start.waiting + 132 ≤ 65536 }
     ensures block_taken { BlockTaken (cell_of stations.now (tables timers.old registers.old x.old y.old z.old w.old inputs.old outputs.old memory.old on.old programs.old) held.old out.old start) input.now (cell_of stations.now (tables timers.new registers.new x.new y.new z.new w.new inputs.new outputs.new memory.new on.new programs.new) held.new out.new result) }
-    ensures within_2 { Within held.new out.new result }
-    ensures waiting_bound_2 { result.waiting + 132 ≤ 65536 }
+    ensures within_after { Within held.new out.new result }
+    ensures waiting_after { result.waiting + 132 ≤ 65536 }
 {
     let mut state = start;
     let mut i = 0;
@@ -86,16 +88,17 @@ fn answer_block(
     state
 }
 
-// Reads a block of input, and returns how many bytes came: none at the input's end.
-fn read_block(input: &mut [u8]) -> usize
+// Reads a block of input, and returns how many bytes came: none at the input's end, and where reading fails.
+fn read_block(rt: &HostRuntime, input: &mut [u8]) -> usize
     ensures { result ≤ length input.new }
 {
-    io::read_full(STDIN_FILENO, input)
+    rt.stdin().read(input).unwrap_or(0)
 }
 
 // Answers every line of standard input that has ended. A proved loop has to end, and nothing says that the
 // input does, so the blocks are counted down from a number that no run uses up.
 fn answer_blocks(
+    rt: &HostRuntime,
     timers: &mut [[u16; 16]; 4],
     registers: &mut [[u16; 64]; 4],
     x: &mut [[i32; 100]; 4],
@@ -120,7 +123,7 @@ fn answer_blocks(
         waiting: 0,
     };
     let mut blocks = u64::MAX;
-    let mut n = read_block(input);
+    let mut n = read_block(rt, input);
     while 0 < n && 0 < blocks {
         state = answer_block(
             timers,
@@ -140,7 +143,7 @@ fn answer_blocks(
             out,
             state,
         );
-        n = read_block(input);
+        n = read_block(rt, input);
         blocks -= 1;
     }
     state
@@ -176,6 +179,7 @@ fn answer_rest(
 
 // Answers every line of standard input on tables that are set up.
 fn answer_all(
+    rt: &HostRuntime,
     timers: &mut [[u16; 16]; 4],
     registers: &mut [[u16; 64]; 4],
     x: &mut [[i32; 100]; 4],
@@ -193,6 +197,7 @@ fn answer_all(
     let mut held = [0u8; 513];
     let mut out = io::large_buffer();
     let state = answer_blocks(
+        rt,
         timers,
         registers,
         x,
@@ -229,7 +234,7 @@ fn answer_all(
 }
 
 // Sets up stations 1 to 4, and answers.
-fn main() {
+fn main(rt: HostRuntime) {
     let mut timers = [[0u16; 16]; 4];
     let mut registers = [[0u16; 64]; 4];
     let mut x = [[0i32; 100]; 4];
@@ -260,6 +265,7 @@ fn main() {
         [1, 2, 3, 4],
     );
     answer_all(
+        &rt,
         &mut timers,
         &mut registers,
         &mut x,

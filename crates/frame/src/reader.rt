@@ -87,7 +87,7 @@ fn read_inner<'a>(
     requires in_bounds { (3 ≤ length inner.now) × (ltb (stray inner.now) (length inner.now) ≡ false) }
     requires position_value { position.old ≡ 0 }
     ensures read { Read (read_inner inner.now) number.new station.new result.now }
-    ensures by_index { (s : List ℕ) → position.new ≡ frame_position s number.new }
+    ensures position_value { (s : List ℕ) → position.new ≡ frame_position s number.new }
 {
     let value = read_station(inner);
     *station = value;

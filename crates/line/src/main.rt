@@ -5,13 +5,13 @@
 // they are 1 2 3 4.
 #![tactic(auto)]
 
-ghost use Rattle.std.specs.Prelude.{◌*◌, ◌≤◌, length, IfOk};
+ghost use Rattle.std.specs.Prelude.{◌*◌, ◌≤◌, length};
 ghost use Rattle.io.specs.Counts.{IsPrefixLen};
 
 use link::arrived::serve_arrived;
 use slots::setup::setup;
 use std::env::{Env, FillError};
-use std::io::{Read, Result, Write};
+use std::io::{Error, Read, Write};
 use text::whole::{Whole, read_whole};
 
 // The descriptor of standard error.
@@ -86,11 +86,22 @@ fn read_stations(rt: &HostRuntime, want: &mut [u16; 4]) -> bool {
     true
 }
 
-// Reads what has arrived, and returns how many bytes: none at the input's end.
-fn read_block(rt: &HostRuntime, input: &mut [u8]) -> Result<usize>
-    ensures { IfOk result (λ n. IsPrefixLen n input.new) }
+// Writes on standard error what failed, and why. Where that cannot be written either, nothing is left to tell.
+fn fail(rt: &HostRuntime, what: &str, error: Error) {
+    if eprintln!(rt; "line: {what}: {error}").is_err() {}
+}
+
+// Reads what has arrived, and returns how many bytes: none at the input's end, and where reading fails.
+fn read_block(rt: &HostRuntime, input: &mut [u8]) -> usize
+    ensures { IsPrefixLen result input.new }
 {
-    rt.stdin().read(input)
+    match rt.stdin().read(input) {
+        Ok(n) => n,
+        Err(error) => {
+            fail(rt, "standard input", error);
+            0
+        }
+    }
 }
 
 // Reads once, serves what has arrived, and writes the replies. Returns whether the line goes on.
@@ -112,12 +123,12 @@ fn serve_some(
     count: &mut u8,
     input: &mut [u8],
     out: &mut [u8],
-) -> Result<bool>
+) -> bool
     requires { 64 * length input.old ≤ length out.old }
 {
-    let n = read_block(rt, input)?;
+    let n = read_block(rt, input);
     if n == 0 {
-        return Ok(false);
+        return false;
     }
     let length = serve_arrived(
         timers,
@@ -137,8 +148,13 @@ fn serve_some(
         &input[..n],
         out,
     );
-    rt.stdout().write_all(&out[..length])?;
-    Ok(true)
+    match rt.stdout().write_all(&out[..length]) {
+        Ok(()) => true,
+        Err(error) => {
+            fail(rt, "standard output", error);
+            false
+        }
+    }
 }
 
 // Serves the line to its end. A proved loop has to end, and nothing says that the line does, so the reads are counted down
@@ -159,7 +175,7 @@ fn serve_line(
     stations: &[u8; 4],
     input: &mut [u8],
     out: &mut [u8],
-) -> Result<()>
+)
     requires { 64 * length input.old ≤ length out.old }
 {
     let mut held = [0u8; 255];
@@ -169,20 +185,19 @@ fn serve_line(
         let more = serve_some(
             rt, timers, registers, x, y, z, w, inputs, outputs, memory, on, programs, stations,
             &mut held, &mut count, input, out,
-        )?;
+        );
         if !more {
-            return Ok(());
+            return;
         }
         reads -= 1;
     }
-    Ok(())
 }
 
 // Sets up the stations of the arguments, and serves the line.
-fn main(rt: HostRuntime) -> Result<()> {
+fn main(rt: HostRuntime) {
     let mut want = [0u16; 4];
     if !read_stations(&rt, &mut want) {
-        return Ok(());
+        return;
     }
     let mut timers = [[0u16; 16]; 4];
     let mut registers = [[0u16; 64]; 4];
@@ -215,7 +230,7 @@ fn main(rt: HostRuntime) -> Result<()> {
     );
     if refused != 0 {
         complain(b"a station is above 99, or given twice");
-        return Ok(());
+        return;
     }
     let mut input = [0u8; 1024];
     let mut out = io::large_buffer();
@@ -235,5 +250,5 @@ fn main(rt: HostRuntime) -> Result<()> {
         &stations,
         &mut input[..],
         &mut out[..],
-    )
+    );
 }

@@ -1,5 +1,5 @@
 -- The slot that a call concerns. Setup leaves no nonzero station twice, so the slot that `decide` finds is the
--- one that the call is addressed to, by `isFor`.
+-- one that the call is addressed to, by `is_for`.
 use Prim.Native.Nat.{ℕ, zero, suc, ◌+◌, ◌<◌, ◌≤◌}
 use mathlib.Core.Path.{◌≡◌, refl, sym, ap, ◌∙◌}
 use mathlib.Core.Bool.{Bool, true, false, cond, not, ◌&&◌}

@@ -1,5 +1,5 @@
 -- The checks of setup: 1 of the memory that is lent for the START programs (document 02, E3), then 13 of the station numbers
--- given for the slots (document 01, "Refusal numbers"). `setupNumber` computes check 13; `SetupJudged` says in both directions
+-- given for the slots (document 01, "Refusal numbers"). `setup_number` computes check 13; `SetupJudged` says in both directions
 -- when it refuses.
 use Rattle.std.specs.Prelude.{ℕ, ◌<◌, ◌≡◌, Bool, false, cond, not, ◌&&◌, ◌||◌, List, [], ◌∷◌, ◌⊎◌, length, get_or, ltb, eqb}
 use Rattle.programs.specs.Memory.{size}

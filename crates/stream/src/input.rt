@@ -43,7 +43,7 @@ fn end_line(
     requires within { Within held.now out.old start }
     requires waiting_bound { start.waiting + 132 ≤ 65536 }
     ensures result_after { cell_of stations.now (tables timers.new registers.new x.new y.new z.new w.new inputs.new outputs.new memory.new on.new programs.new) held.now out.new result ≡ ended (cell_of stations.now (tables timers.old registers.old x.old y.old z.old w.old inputs.old outputs.old memory.old on.old programs.old) held.now out.old start) }
-    ensures within_2 { Within held.now out.new result }
+    ensures within_after { Within held.now out.new result }
 {
     let n = start.held;
     let at = start.waiting;
@@ -92,7 +92,7 @@ fn take_line(
     requires within { Within held.old out.old start }
     requires waiting_bound { start.waiting + 132 ≤ 65536 }
     ensures took { Took (cell_of stations.now (tables timers.old registers.old x.old y.old z.old w.old inputs.old outputs.old memory.old on.old programs.old) held.old out.old start) input.now result.taken (cell_of stations.now (tables timers.new registers.new x.new y.new z.new w.new inputs.new outputs.new memory.new on.new programs.new) held.new out.new result.state) }
-    ensures within_2 { Within held.new out.new result.state }
+    ensures within_after { Within held.new out.new result.state }
     ensures taken_nonzero { 0 < length input.now → 0 < result.taken }
 {
     let n = find(input, 0, b'\n');
@@ -138,7 +138,7 @@ pub fn take_block(
 ) -> Part
     requires { Within held.old out.old start }
     ensures took { Took (cell_of stations.now (tables timers.old registers.old x.old y.old z.old w.old inputs.old outputs.old memory.old on.old programs.old) held.old out.old start) input.now result.taken (cell_of stations.now (tables timers.new registers.new x.new y.new z.new w.new inputs.new outputs.new memory.new on.new programs.new) held.new out.new result.state) }
-    ensures fact { (result.taken ≡ length input.now) ⊎ (65404 < result.state.waiting) }
+    ensures all_or_full { (result.taken ≡ length input.now) ⊎ (65404 < result.state.waiting) }
     ensures within { Within held.new out.new result.state }
 {
     let mut state = start;
@@ -192,7 +192,7 @@ pub fn answer_last(
     requires within { Within held.now out.old start }
     requires waiting_bound { start.waiting + 132 ≤ 65536 }
     ensures result_after { cell_of stations.now (tables timers.new registers.new x.new y.new z.new w.new inputs.new outputs.new memory.new on.new programs.new) held.now out.new result ≡ finished (cell_of stations.now (tables timers.old registers.old x.old y.old z.old w.old inputs.old outputs.old memory.old on.old programs.old) held.now out.old start) }
-    ensures within_2 { Within held.now out.new result }
+    ensures within_after { Within held.now out.new result }
 {
     if start.held == 0 {
         return start;

@@ -45,7 +45,7 @@ pub struct HundredthsField {
 fn read_decimals(s: &[u8], from: usize) -> WholeField
     requires { from ≤ length s.now }
     ensures whole_value { whole_answer result.whole ≡ read_at from (decimals (field_at s.now from)) }
-    ensures by_index { (v : ℕ) → result.whole ≡ whole.Value v → result.end ≡ end_at s.now from }
+    ensures end_value { (v : ℕ) → result.whole ≡ whole.Value v → result.end ≡ end_at s.now from }
 {
     let read = read_whole(s, from);
     let end = read.end;
@@ -78,7 +78,7 @@ fn read_decimals(s: &[u8], from: usize) -> WholeField
 fn read_magnitude(s: &[u8], from: usize) -> MagnitudeField
     requires { from ≤ length s.now }
     ensures magnitude_value { result.magnitude ≡ magnitude (field_at s.now from) }
-    ensures by_index { (m : ℕ) → result.magnitude ≡ Size m → result.end ≡ end_at s.now from }
+    ensures end_value { (m : ℕ) → result.magnitude ≡ Size m → result.end ≡ end_at s.now from }
 {
     let digits = read_digits(s, from);
     let point = digits.end;

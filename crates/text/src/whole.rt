@@ -68,7 +68,7 @@ pub fn read_digits(s: &[u8], from: usize) -> Digits
 pub fn read_whole(s: &[u8], from: usize) -> WholeField
     requires { from ≤ length s.now }
     ensures whole_value { whole_answer result.whole ≡ read_at from (read_whole (field_at s.now from)) }
-    ensures by_index { (v : ℕ) → result.whole ≡ Value v → result.end ≡ end_at s.now from }
+    ensures end_value { (v : ℕ) → result.whole ≡ Value v → result.end ≡ end_at s.now from }
     ensures end_in_bounds { result.end ≤ length s.now }
 {
     let digits = read_digits(s, from);

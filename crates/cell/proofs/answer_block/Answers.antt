@@ -30,22 +30,21 @@ pub loop-i-smaller : goal.loop-i-smaller
 loop-i-smaller c =
     let n = part_length c.args.input.now c.loop-i.i in
     let h : c.loop-i.i < length c.args.input.now = c.loop-i-test.true in
-    omega (arith, n, part_some c.loop-i.invariant.1.0 c.loop-i.invariant.1.1.0 (omega (arith, n)) c.take_block-part.ensures.within c.take_block-part.ensures.took c.take_block-part.ensures.fact)
+    omega (arith, n, part_some c.loop-i.invariant.1.0 c.loop-i.invariant.1.1.0 (omega (arith, n)) c.take_block-part.ensures.within c.take_block-part.ensures.took c.take_block-part.ensures.all_or_full)
 
 pub loop-i-preserved : goal.loop-i-preserved
-loop-i-preserved c =
-    (
-      part_within c.args.input.now c.loop-i.i c.loop-i.invariant.0 c.take_block-part.ensures.took,
-      (
-        record {
-          held_size = c.take_block-part.ensures.within.held_size;
-          out_size = c.take_block-part.ensures.within.out_size;
-          held_fits = omega (arith, c.take_block-part.ensures.within.held_fits);
-          waiting_fits = omega (arith, c.make_room-waiting.ensures.1);
-        },
-        (c.make_room-waiting.ensures.1, (room_made c.take_block-part.new.out c.take_block-part.result.state.waiting c.make_room-waiting.ensures.0 (part_more c.args.input.now c.loop-i.i c.loop-i.invariant.1.1.1.0 c.take_block-part.ensures.took), c.take_block-part.auto.programs ∙ c.loop-i.invariant.1.1.1.1)),
-      ),
-    )
+loop-i-preserved c = (
+  part_within c.args.input.now c.loop-i.i c.loop-i.invariant.0 c.take_block-part.ensures.took,
+  (
+    record {
+      held_size = c.take_block-part.ensures.within.held_size;
+      out_size = c.take_block-part.ensures.within.out_size;
+      held_fits = omega (arith, c.take_block-part.ensures.within.held_fits);
+      waiting_fits = omega (arith, c.make_room-waiting.ensures.1);
+    },
+    (c.make_room-waiting.ensures.1, (room_made c.take_block-part.new.out c.take_block-part.result.state.waiting c.make_room-waiting.ensures.0 (part_more c.args.input.now c.loop-i.i c.loop-i.invariant.1.1.1.0 c.take_block-part.ensures.took), c.take_block-part.auto.programs ∙ c.loop-i.invariant.1.1.1.1)),
+  ),
+)
 
 pub shape_of-programs : goal.shape_of-programs
 shape_of-programs c =
@@ -61,7 +60,11 @@ shape_of-out c =
 
 pub returns : goal.returns
 returns c =
-    record { block_taken = record {
-      before = c.loop-i.invariant.1.1.1.0.before;
-      state_is = rw (take_all c.loop-i.i c.args.input.now (omega arith)) at c.loop-i.invariant.1.1.1.0.state_is;
-    }; within_2 = c.loop-i.invariant.1.0; waiting_bound_2 = c.loop-i.invariant.1.1.0 }
+    record {
+      block_taken = record {
+        before = c.loop-i.invariant.1.1.1.0.before;
+        state_is = rw (take_all c.loop-i.i c.args.input.now (omega arith)) at c.loop-i.invariant.1.1.1.0.state_is;
+      };
+      within_after = c.loop-i.invariant.1.0;
+      waiting_after = c.loop-i.invariant.1.1.0;
+    }

@@ -3,22 +3,21 @@ use native.Mathlib.Omega.{arith}
 use Rattle.cell.proofs.answer_blocks.Goals as goal
 
 pub loop-n-init : goal.loop-n-init
-loop-n-init c =
+loop-n-init c = (
+  (refl, refl),
+  (
+    c.read_block-n.ensures,
     (
-      (refl, refl),
-      (
-        c.read_block-n.ensures,
-        (
-          record {
-            held_size = c.requires.0;
-            out_size = c.requires.1;
-            held_fits = omega arith;
-            waiting_fits = omega arith;
-          },
-          omega arith,
-        ),
-      ),
-    )
+      record {
+        held_size = c.requires.0;
+        out_size = c.requires.1;
+        held_fits = omega arith;
+        waiting_fits = omega arith;
+      },
+      omega arith,
+    ),
+  ),
+)
 
 pub front-requires : goal.front-requires
 front-requires c =
@@ -39,7 +38,7 @@ loop-n-smaller c =
 
 pub loop-n-preserved : goal.loop-n-preserved
 loop-n-preserved c =
-    ((c.answer_block-state.auto.programs ∙ c.loop-n.invariant.0.0, c.read_block-n-in-loop-n.auto.input ∙ c.loop-n.invariant.0.1), (c.read_block-n-in-loop-n.ensures, (c.answer_block-state.ensures.within_2, c.answer_block-state.ensures.waiting_bound_2)))
+    ((c.answer_block-state.auto.programs ∙ c.loop-n.invariant.0.0, c.read_block-n-in-loop-n.auto.input ∙ c.loop-n.invariant.0.1), (c.read_block-n-in-loop-n.ensures, (c.answer_block-state.ensures.within_after, c.answer_block-state.ensures.waiting_after)))
 
 pub shape_of-programs-else-blocks-gt0 : goal.shape_of-programs-else-blocks-gt0
 shape_of-programs-else-blocks-gt0 c =

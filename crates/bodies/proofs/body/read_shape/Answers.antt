@@ -98,37 +98,37 @@ pub returns-then-rule : goal.returns-then-rule
 returns-then-rule c =
     let a = c.args in
     let r = c.read_whole-read.ensures in
-    lacks a.rule a.s.now a.from c.requires (number a.s.now a.from r.whole_value c.in-Value.is) (r.by_index _ c.in-Value.is) c.if-rule.true c.if-end-s.true
+    lacks a.rule a.s.now a.from c.requires (number a.s.now a.from r.whole_value c.in-Value.is) (r.end_value _ c.in-Value.is) c.if-rule.true c.if-end-s.true
 
 pub returns-then-end-s : goal.returns-then-end-s
 returns-then-end-s c =
     let a = c.args in
     let r = c.read_whole-read.ensures in
-    bare a.rule a.s.now a.from c.requires (number a.s.now a.from r.whole_value c.in-Value.is) (r.by_index _ c.in-Value.is) _ c.if-rule.false c.if-end-s.true
+    bare a.rule a.s.now a.from c.requires (number a.s.now a.from r.whole_value c.in-Value.is) (r.end_value _ c.in-Value.is) _ c.if-rule.false c.if-end-s.true
 
 pub returns-in-Numbers : goal.returns-in-Numbers
 returns-in-Numbers c =
     let a = c.args in
     let r = c.read_whole-read.ensures in
-    with_numbers a.rule a.s.now a.from c.requires (number a.s.now a.from r.whole_value c.in-Value.is) (r.by_index _ c.in-Value.is) c.if-rule-2.true c.if-end-s.false (rw c.in-Numbers.is at c.read_data-read.ensures)
+    with_numbers a.rule a.s.now a.from c.requires (number a.s.now a.from r.whole_value c.in-Value.is) (r.end_value _ c.in-Value.is) c.if-rule-2.true c.if-end-s.false (rw c.in-Numbers.is at c.read_data-read.ensures)
 
 pub returns-in-Texts : goal.returns-in-Texts
 returns-in-Texts c =
     let a = c.args in
     let r = c.read_whole-read.ensures in
-    with_data a.rule a.s.now a.from c.requires (number a.s.now a.from r.whole_value c.in-Value.is) (r.by_index _ c.in-Value.is) c.if-rule-2.true c.if-end-s.false (rw c.in-Texts.is at c.read_data-read.ensures)
+    with_data a.rule a.s.now a.from c.requires (number a.s.now a.from r.whole_value c.in-Value.is) (r.end_value _ c.in-Value.is) c.if-rule-2.true c.if-end-s.false (rw c.in-Texts.is at c.read_data-read.ensures)
 
 pub returns-in-Malformed-read : goal.returns-in-Malformed-read
 returns-in-Malformed-read c =
     let a = c.args in
     let r = c.read_whole-read.ensures in
-    misshapen a.rule a.s.now a.from c.requires (number a.s.now a.from r.whole_value c.in-Value.is) (r.by_index _ c.in-Value.is) c.if-rule-2.true c.if-end-s.false (rw c.in-Malformed-read.is at c.read_data-read.ensures)
+    misshapen a.rule a.s.now a.from c.requires (number a.s.now a.from r.whole_value c.in-Value.is) (r.end_value _ c.in-Value.is) c.if-rule-2.true c.if-end-s.false (rw c.in-Malformed-read.is at c.read_data-read.ensures)
 
 pub returns-else-rule-2 : goal.returns-else-rule-2
 returns-else-rule-2 c =
     let a = c.args in
     let r = c.read_whole-read.ensures in
-    surplus a.rule a.s.now a.from c.requires (number a.s.now a.from r.whole_value c.in-Value.is) (r.by_index _ c.in-Value.is) c.if-rule-2.false c.if-end-s.false
+    surplus a.rule a.s.now a.from c.requires (number a.s.now a.from r.whole_value c.in-Value.is) (r.end_value _ c.in-Value.is) c.if-rule-2.false c.if-end-s.false
 
 pub returns-in-Malformed : goal.returns-in-Malformed
 returns-in-Malformed c =

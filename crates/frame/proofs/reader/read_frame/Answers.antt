@@ -77,4 +77,4 @@ pub returns : goal.returns
 returns c =
     let read = rw part_is at c.read_inner.ensures.read in
     let more = left c.args.slice.now c.lrc_and_stray-scanned.result.sum c.if-slice-lt6.false c.if-slice-gt255.false c.if-slice-ne-STX.false c.if-slice-etx-ne-ETX.false c.lrc_and_stray-scanned.ensures.sum_value in
-    record { read = rw (more, eq-eqb _ _ c.if-slice-last.false) read; position_after = c.read_inner.ensures.by_index _ }
+    record { read = rw (more, eq-eqb _ _ c.if-slice-last.false) read; position_after = c.read_inner.ensures.position_value _ }

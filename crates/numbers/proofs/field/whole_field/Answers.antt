@@ -10,7 +10,7 @@ use Rattle.numbers.proofs.field.whole_field.Goals as goal
 pub returns-in-Value : goal.returns-in-Value
 returns-in-Value c =
     let n = was_read _ (read_whole (field_at c.args.s.now c.args.from)) (rw c.in-Value.is at c.read_whole-read.ensures.whole_value) in
-    record { field_value = rw (to_z_pos w32 {n = c.in-Value.v} (omega arith), n); end_value = λ v e. c.read_whole-read.ensures.by_index _ c.in-Value.is }
+    record { field_value = rw (to_z_pos w32 {n = c.in-Value.v} (omega arith), n); end_value = λ v e. c.read_whole-read.ensures.end_value _ c.in-Value.is }
 
 pub returns-in-Malformed : goal.returns-in-Malformed
 returns-in-Malformed c =

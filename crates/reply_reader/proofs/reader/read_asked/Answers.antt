@@ -66,9 +66,9 @@ returns-then-n-asked c =
 pub returns-then-end-body : goal.returns-then-end-body
 unfolding promised
 returns-then-end-body c =
-    alone c.args.asked c.args.body.now (number c.args.body.now c.read_whole-read.ensures.whole_value c.in-Value.is) c.if-n-asked.false (c.read_whole-read.ensures.by_index _ c.in-Value.is) c.if-end-body.true
+    alone c.args.asked c.args.body.now (number c.args.body.now c.read_whole-read.ensures.whole_value c.in-Value.is) c.if-n-asked.false (c.read_whole-read.ensures.end_value _ c.in-Value.is) c.if-end-body.true
 
 pub returns : goal.returns
 unfolding promised
 returns c =
-    c.read_content.ensures ∙ sym (followed c.args.asked c.args.body.now (number c.args.body.now c.read_whole-read.ensures.whole_value c.in-Value.is) c.if-n-asked.false (c.read_whole-read.ensures.by_index _ c.in-Value.is) c.if-end-body.false)
+    c.read_content.ensures ∙ sym (followed c.args.asked c.args.body.now (number c.args.body.now c.read_whole-read.ensures.whole_value c.in-Value.is) c.if-n-asked.false (c.read_whole-read.ensures.end_value _ c.in-Value.is) c.if-end-body.false)

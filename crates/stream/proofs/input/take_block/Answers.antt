@@ -11,4 +11,4 @@ loop-i-init c =
 
 pub loop-i-preserved : goal.loop-i-preserved
 loop-i-preserved c =
-    (part_within c.args.input.now c.loop-i.i c.loop-i.invariant.0 c.take_line-part.ensures.took, (c.take_line-part.ensures.within_2, (part_taken _ c.args.input.now c.loop-i.i c.loop-i.invariant.1.1.0 c.take_line-part.ensures.took, c.take_line-part.auto.programs ∙ c.loop-i.invariant.1.1.1)))
+    (part_within c.args.input.now c.loop-i.i c.loop-i.invariant.0 c.take_line-part.ensures.took, (c.take_line-part.ensures.within_after, (part_taken _ c.args.input.now c.loop-i.i c.loop-i.invariant.1.1.0 c.take_line-part.ensures.took, c.take_line-part.auto.programs ∙ c.loop-i.invariant.1.1.1)))

@@ -25,4 +25,4 @@ with_sign-requires c =
 pub returns : goal.returns
 returns c =
     let minus = not (eqb c.after_sign-start.result c.args.from) in
-    record { hundredths_value = c.with_sign.ensures ∙ ap (read_at c.args.from) (ap (signed minus) c.read_magnitude-read.ensures.magnitude_value ∙ sym c.after_sign-start.ensures.from_value); end_value = λ v e. to_end minus c.read_magnitude-read.result.magnitude c.args.from (sym c.with_sign.ensures ∙ ap hundredths_answer e) (λ m q. c.read_magnitude-read.ensures.by_index m q ∙ c.after_sign-start.ensures.result_value.0) }
+    record { hundredths_value = c.with_sign.ensures ∙ ap (read_at c.args.from) (ap (signed minus) c.read_magnitude-read.ensures.magnitude_value ∙ sym c.after_sign-start.ensures.from_value); end_value = λ v e. to_end minus c.read_magnitude-read.result.magnitude c.args.from (sym c.with_sign.ensures ∙ ap hundredths_answer e) (λ m q. c.read_magnitude-read.ensures.end_value m q ∙ c.after_sign-start.ensures.result_value.0) }

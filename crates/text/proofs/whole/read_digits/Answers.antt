@@ -11,7 +11,6 @@ use Rattle.text.specs.Whole.{is_digit, digit_count, digit_value}
 use Rattle.text.proofs.Laws.{here, over}
 use Rattle.text.proofs.whole.read_digits.Invariants.{Begun}
 use Rattle.text.proofs.whole.read_digits.Goals as goal
-use Rattle.text.proofs.whole.read_digits.Goals.{then-room-lt4, else-room-lt4}
 
 -- the digits end after k
 record Ended (s : List ℕ) (from n end : ℕ) : Type 0 where
@@ -101,10 +100,8 @@ start s from most f g h = record {
 }
 
 pub loop-k-init : goal.loop-k-init
-loop-k-init c = elim c.if-room-lt4.branch [
-  | then-room-lt4 w ↦ start _ _ _ (omega arith) (omega arith) (λ h. omega arith)
-  | else-room-lt4 w ↦ start _ _ _ (omega arith) (omega arith) (λ h. omega arith)
-]
+loop-k-init c =
+    start _ _ _ (omega arith) (omega arith) (λ h. omega arith)
 
 pub overflow_add-b : goal.overflow_add-b
 overflow_add-b c =
