@@ -1,4 +1,3 @@
--- `three` and `four` are where the tests of the two ends were made.
 use mathlib.Core.Path.{sym, ◌∙◌}
 use borrow.Author.Tests.{lt-ltb, le-ltb}
 use Rattle.text.proofs.Fields.{inside}

@@ -1,4 +1,3 @@
--- `e` is where the name's end was found, and `s` the text.
 use Prim.Native.Nat.{ℕ}
 use mathlib.Core.Path.{sym, ap, ◌∙◌}
 use native.Mathlib.Omega.{arith}

@@ -1,4 +1,3 @@
--- `t1` to `t5` are where each text was read.
 use mathlib.Core.Path.{sym}
 use Rattle.programs.proofs.Typed.{load_empty, load_found}
 use Rattle.programs.proofs.memory.load_step.Goals as goal

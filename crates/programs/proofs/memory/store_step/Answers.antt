@@ -1,4 +1,3 @@
--- `p1` to `p5` are where each text was put.
 use native.Mathlib.Omega.{arith}
 use Rattle.text.proofs.Laws.{put_at_then}
 use Rattle.programs.specs.Memory.{step_bytes, stored}
