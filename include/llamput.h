@@ -1,4 +1,4 @@
-// The entries of libllamput.a, which `rt lib` in crates/llamput writes for programs on x86-64 Linux.
+// The entries of libllamput.a, which `tools/archive` writes for programs on x86-64 Linux.
 //
 // The caller owns all memory. No two areas overlap, but the buffers of two ports may. No pointer is null; one to an area of
 // length 0 may be any other.

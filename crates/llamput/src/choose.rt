@@ -1,4 +1,4 @@
-// The chooser, exported. An exported function cannot return a part of a caller's bytes; the length of the part stands for it,
+// The chooser, for export. An exported function cannot return a part of a caller's bytes; the length of the part stands for it,
 // which begins where its port's buffer does.
 ghost use Rattle.chooser.specs.Turn.{buffers, pick};
 ghost use Rattle.llamput.specs.Choice.{Chosen};
@@ -16,8 +16,7 @@ pub struct Choice {
 }
 
 // Picks the port that is served next.
-#[unsafe(no_mangle)]
-pub extern "C" fn llamput_choose<'a>(
+pub fn llamput_choose<'a>(
     turn: &mut u8,
     a: &'a [u8],
     waiting_a: usize,

@@ -1,11 +1,10 @@
-// The number of outputs that are on, exported.
+// The number of outputs that are on, for export.
 ghost use Rattle.slots.specs.Entries.{Counted};
 
 use slots::count::Count;
 
 // Tells how many outputs of a slot's arm are on.
-#[unsafe(no_mangle)]
-pub extern "C" fn llamput_outputs_on(on: &[u16; 4], stations: &[u8; 4], slot: usize) -> Count
+pub fn llamput_outputs_on(on: &[u16; 4], stations: &[u8; 4], slot: usize) -> Count
     ensures { Counted stations.now on.now slot result }
 {
     slots::count::outputs_on(on, stations, slot)

@@ -1,4 +1,4 @@
-// Input calls, exported.
+// Input calls, for export.
 ghost use Rattle.std.specs.Prelude.{ℕ, List};
 ghost use Rattle.tables.specs.Tables.{tables};
 ghost use Rattle.model.specs.Box.{box};
@@ -7,8 +7,7 @@ ghost use Rattle.slots.specs.Entries.{InputSet};
 use commands::request::Port;
 
 // Puts a byte into an input port.
-#[unsafe(no_mangle)]
-pub extern "C" fn llamput_input(
+pub fn llamput_input(
     timers: &mut [[u16; 16]; 4],
     registers: &mut [[u16; 64]; 4],
     x: &mut [[i32; 100]; 4],

@@ -1,4 +1,4 @@
-// Serving the next of two ports, exported.
+// Serving the next of two ports, for export.
 ghost use Rattle.chooser.specs.Turn.{buffers};
 ghost use Rattle.tables.specs.Tables.{tables};
 ghost use Rattle.model.specs.Box.{box};
@@ -7,8 +7,7 @@ ghost use Rattle.hosts.specs.Next.{NextServed};
 use hosts::next::Next;
 
 // Picks the port whose turn it is, and serves its waiting slice.
-#[unsafe(no_mangle)]
-pub extern "C" fn llamput_serve_next<'a>(
+pub fn llamput_serve_next<'a>(
     timers: &mut [[u16; 16]; 4],
     registers: &mut [[u16; 64]; 4],
     x: &mut [[i32; 100]; 4],

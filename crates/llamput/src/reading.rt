@@ -1,4 +1,4 @@
-// Replies read with their numbers as doubles, exported.
+// Replies read with their numbers as doubles, for export.
 ghost use Rattle.std.specs.Prelude.{◌≡◌};
 ghost use Rattle.untyped.specs.Untyped.{read_coded, numbers_of, doubles_for};
 ghost use Rattle.llamput.specs.Reading.{Told};
@@ -16,8 +16,7 @@ pub struct Reply {
 }
 
 // Reads the reply to the request of a command, a number and data.
-#[unsafe(no_mangle)]
-pub extern "C" fn llamput_read_converted(
+pub fn llamput_read_converted(
     slice: &[u8],
     station: u8,
     command: u8,
@@ -44,8 +43,7 @@ pub extern "C" fn llamput_read_converted(
 }
 
 // Converts data of a kind.
-#[unsafe(no_mangle)]
-pub extern "C" fn llamput_convert(kind: u8, values: &[i32; 4], doubles: &mut [f64; 4])
+pub fn llamput_convert(kind: u8, values: &[i32; 4], doubles: &mut [f64; 4])
     ensures { doubles.new ≡ doubles_for kind values.now }
 {
     *doubles = convert_values(kind, *values);

@@ -1,12 +1,11 @@
-// The receiver, exported.
+// The receiver, for export.
 ghost use Rattle.std.specs.Prelude.{length};
 ghost use Rattle.receiver.specs.Receive.{received, Received};
 
 use receiver::receive::Reception;
 
 // Takes bytes of what has arrived until a slice is finished or none is left.
-#[unsafe(no_mangle)]
-pub extern "C" fn llamput_receive(
+pub fn llamput_receive(
     held: &mut [u8; 255],
     count: &mut u8,
     arrived: &[u8],

@@ -1,4 +1,4 @@
-// Serving, exported.
+// Serving, for export.
 ghost use Rattle.tables.specs.Tables.{tables};
 ghost use Rattle.model.specs.Box.{box};
 ghost use Rattle.gateway.specs.Entries.{Served};
@@ -6,8 +6,7 @@ ghost use Rattle.gateway.specs.Entries.{Served};
 use harl::message::Sent;
 
 // Serves a slice.
-#[unsafe(no_mangle)]
-pub extern "C" fn llamput_serve(
+pub fn llamput_serve(
     timers: &mut [[u16; 16]; 4],
     registers: &mut [[u16; 64]; 4],
     x: &mut [[i32; 100]; 4],

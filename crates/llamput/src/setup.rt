@@ -1,10 +1,9 @@
-// Setup, exported.
+// Setup, for export.
 ghost use Rattle.tables.specs.Tables.{tables};
 ghost use Rattle.slots.specs.Entries.{SetUp};
 
 // Sets up a new box in lent memory.
-#[unsafe(no_mangle)]
-pub extern "C" fn llamput_setup(
+pub fn llamput_setup(
     timers: &mut [[u16; 16]; 4],
     registers: &mut [[u16; 64]; 4],
     x: &mut [[i32; 100]; 4],
