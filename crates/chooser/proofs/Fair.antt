@@ -6,8 +6,10 @@ use mathlib.Core.List.{[], ◌∷◌}
 use native.Mathlib.Omega.{arith}
 use borrow.Author.Tests.{eqb-true, eqb-false}
 use lib.Dec.{eqb}
-use Rattle.chooser.specs.Turn.{none, port_a, port_b, Buffers, is_waiting, port_picked, pick}
-use Rattle.chooser.specs.Fair.{Port, A, B, number, Waits, picks, Fair}
+use Rattle.chooser.specs.Turn.{none, port_a, port_b, number_of, Buffers, is_waiting, port_picked, pick}
+use Rattle.chooser.specs.declared.choose.Port.{Port}
+use Rattle.chooser.specs.declared.choose.Port.TheVariants.{A, B}
+use Rattle.chooser.specs.Fair.{Waits, picks, Fair}
 use Rattle.chooser.proofs.Picks.{waits_true}
 
 -- the port goes when both wait
@@ -16,7 +18,7 @@ First A turn = turn ≡ port_a → ⊥
 First B turn = turn ≡ port_a
 
 -- a port that waits and is not named did not go first, and does next
-passed : (p : Port) (h : Buffers) (turn : ℕ) → Waits p h → ((pick h turn).port ≡ number p → ⊥) → (First p turn → ⊥) × First p (pick h turn).turn
+passed : (p : Port) (h : Buffers) (turn : ℕ) → Waits p h → ((pick h turn).port ≡ number_of p → ⊥) → (First p turn → ⊥) × First p (pick h turn).turn
 unfolding pick port_picked
 passed A h turn w k = rw (waits_true A h w) (go (is_waiting h.b h.waiting_b) (eqb turn port_a) refl (rw (waits_true A h w) at k))
   where

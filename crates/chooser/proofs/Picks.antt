@@ -8,7 +8,9 @@ use borrow.Author.Tests.{leb-true, eqb-false, le-leb, eq-eqb, ne_eqb}
 use lib.Dec.{eqb, leb}
 use lib.ListN.{length}
 use Rattle.chooser.specs.Turn.{none, port_a, port_b, Buffers, is_waiting, port_picked, slice_at, pick_of, pick}
-use Rattle.chooser.specs.Fair.{Port, A, B, number, buffer, waiting, Waits, Idle, NotIdle, HandsBack, FirstA}
+use Rattle.chooser.specs.declared.choose.Port.{Port}
+use Rattle.chooser.specs.declared.choose.Port.TheVariants.{A, B}
+use Rattle.chooser.specs.Fair.{buffer, waiting, Waits, Idle, NotIdle, HandsBack, FirstA}
 
 -- ---- the test for a waiting slice
 
@@ -55,23 +57,7 @@ picked_b a true turn e = refl
 picked_b true false turn e = absurd (omega arith)
 picked_b false false turn e = absurd (omega arith)
 
-pub picked_else : (a b : Bool) (turn : ℕ) → (port_picked a b turn ≡ none → ⊥) → (port_picked a b turn ≡ port_a → ⊥) → port_picked a b turn ≡ port_b
-unfolding port_picked
-picked_else true true turn n k = go (eqb turn port_a) k
-  where
-    go : (t : Bool) → (cond t port_b port_a ≡ port_a → ⊥) → ◌≡◌ {A = ℕ} (cond t port_b port_a) port_b
-    go true f = refl
-    go false f = absurd (f refl)
-picked_else true false turn n k = absurd (k refl)
-picked_else false true turn n k = refl
-picked_else false false turn n k = absurd (n refl)
-
 -- ---- the picks
-
--- by the tests as the code made them
-pub pick_is : {a b : Bool} {port : ℕ} (h : Buffers) (turn : ℕ) → a ≡ is_waiting h.a h.waiting_a → b ≡ is_waiting h.b h.waiting_b → port ≡ port_picked a b turn → pick h turn ≡ pick_of h turn port
-unfolding pick
-pick_is h turn p q e = rw (e, p, q)
 
 pub none_idle : (h : Buffers) (turn : ℕ) → (pick h turn).port ≡ none → (pick h turn).number ≡ 17
 unfolding pick

@@ -1,15 +1,8 @@
 -- What holds of a pick and of any list of picks, by what waits at the ports (proved in proofs/Picks.antt and Fair.antt).
 use Rattle.std.specs.Prelude.{ℕ, ◌≤◌, ◌<◌, ◌≡◌, List, [], ◌∷◌, length, take}
-use Rattle.chooser.specs.Turn.{none, port_a, port_b, fresh, Buffers, Pick, pick}
-
--- one of the two ports
-pub data Port : Type 0 where
-  A : Port
-  B : Port
-
-abbrev pub number : Port → ℕ
-number A = port_a
-number B = port_b
+use Rattle.chooser.specs.declared.choose.Port.{Port}
+use Rattle.chooser.specs.declared.choose.Port.TheVariants.{A, B}
+use Rattle.chooser.specs.Turn.{none, number_of, fresh, Buffers, Pick, pick}
 
 abbrev pub buffer : Port → Buffers → List ℕ
 buffer A h = h.a
@@ -38,14 +31,14 @@ NotIdle = (h : Buffers) (turn : ℕ) (p : Port) → Waits p h → (pick h turn).
 -- a port that is named waits; its waiting bytes are handed back, and the turn keeps it
 pub record Handed (h : Buffers) (turn : ℕ) (p : Port) : Type 0 where
   pub waits : Waits p h
-  pub pick_is : pick h turn ≡ record { number = 0; port = number p; turn = number p; part = take (waiting p h) (buffer p h) }
+  pub pick_is : pick h turn ≡ record { number = 0; port = number_of p; turn = number_of p; part = take (waiting p h) (buffer p h) }
 
 abbrev pub HandsBack : Type 0
-HandsBack = (h : Buffers) (turn : ℕ) (p : Port) → (pick h turn).port ≡ number p → Handed h turn p
+HandsBack = (h : Buffers) (turn : ℕ) (p : Port) → (pick h turn).port ≡ number_of p → Handed h turn p
 
 -- in a new box A goes first
 abbrev pub FirstA : Type 0
-FirstA = (h : Buffers) → Waits A h → (pick h fresh).port ≡ number A
+FirstA = (h : Buffers) → Waits A h → (pick h fresh).port ≡ number_of A
 
 -- ---- a list of picks
 
@@ -62,7 +55,7 @@ AlwaysWaits p (h ∷ hs) = Waits p h × AlwaysWaits p hs
 -- no pick names the port
 abbrev pub NeverNamed : Port → List Pick → Type 0
 NeverNamed p [] = Unit
-NeverNamed p (k ∷ ks) = (k.port ≡ number p → ⊥) × NeverNamed p ks
+NeverNamed p (k ∷ ks) = (k.port ≡ number_of p → ⊥) × NeverNamed p ks
 
 -- while a port waits and is not served, the other is served at most once. From any turn, so that it holds of every run of
 -- picks in a longer list

@@ -1,6 +1,10 @@
 -- Which of two ports is served next (document 02, E5). A port is where one computer is connected to the box; it lends a buffer
 -- with one waiting slice.
-use Rattle.std.specs.Prelude.{ℕ, ◌≡◌, Bool, false, cond, List, [], eqb, leb, length, take}
+use Rattle.std.specs.Prelude.{ℕ, ◌≡◌, Bool, false, cond, List, [], eqb, leb, length, take, Option, Some, None, Result, Ok, Err}
+use Rattle.refusals.specs.declared.refusal.Refusal.{Refusal}
+use Rattle.chooser.specs.declared.choose.Port.{Port}
+use Rattle.chooser.specs.declared.choose.Port.TheVariants.{A, B}
+use Rattle.chooser.specs.declared.choose.Choice.{Choice}
 
 -- the ports as numbers; none where neither is meant
 abbrev pub none : ℕ
@@ -11,6 +15,10 @@ port_a = 1
 
 abbrev pub port_b : ℕ
 port_b = 2
+
+abbrev pub number_of : Port → ℕ
+number_of A = port_a
+number_of B = port_b
 
 -- the turn keeps the port that was served last, none in a new box. Every other value means what none does
 abbrev pub fresh : ℕ
@@ -29,6 +37,10 @@ buffers a n b m = record { a = a; waiting_a = n; b = b; waiting_b = m }
 -- whether a slice waits: a waiting length of zero, or beyond the buffer, means none
 unfoldable pub is_waiting : List ℕ → ℕ → Bool
 is_waiting buffer n = cond (eqb n 0) false (leb n (length buffer))
+
+-- the slice that waits
+abbrev pub waiting_in : List ℕ → ℕ → Option (List ℕ)
+waiting_in buffer n = cond (is_waiting buffer n) (Some (take n buffer)) None
 
 -- the port that is picked, by whether a slice waits at A and at B: when both wait, the one not served last
 unfoldable pub port_picked : Bool → Bool → ℕ → ℕ
@@ -65,3 +77,12 @@ pub record Picked (p : Pick) (number port turn : ℕ) (part : List ℕ) : Type 0
   pub port_is : port ≡ p.port
   pub turn_is : turn ≡ p.turn
   pub part_is : part ≡ p.part
+
+-- the port that was picked, none where the call was refused, and the bytes handed back
+abbrev pub port_in : Result Choice Refusal → ℕ
+port_in (Ok c) = number_of c.port
+port_in (Err r) = none
+
+abbrev pub part_in : Result Choice Refusal → List ℕ
+part_in (Ok c) = c.part.now
+part_in (Err r) = []

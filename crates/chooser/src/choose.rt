@@ -1,65 +1,80 @@
 // The chooser: picks the port that is served next, and hands back its waiting slice.
-ghost use Rattle.std.specs.Prelude.{◌≡◌};
-ghost use Rattle.chooser.specs.Turn.{is_waiting, port_picked, buffers, pick, Picked};
+ghost use Rattle.std.specs.Prelude.{◌≡◌, option_map};
+ghost use Rattle.refusals.specs.Refusal.{refusal_number};
+ghost use Rattle.chooser.specs.Turn.{buffers, pick, Picked, number_of, waiting_in, port_in, part_in};
 
-// The ports as numbers; NONE where neither is meant.
-pub const NONE: u8 = 0;
+use refusals::refusal::Refusal;
 
-pub const A: u8 = 1;
-
-pub const B: u8 = 2;
-
-// Whether a slice waits: a waiting length of zero, or beyond the buffer, means none.
-fn is_waiting(buffer: &[u8], waiting: usize) -> bool
-    ensures { result ≡ is_waiting buffer.now waiting }
-{
-    if waiting == 0 {
-        return false;
-    }
-    waiting <= buffer.len()
+// A port of the box.
+#[derive(Clone, Copy)]
+pub enum Port {
+    A,
+    B,
 }
 
-// The port whose turn it is, by whether a slice waits at A and at B: of two, the one not served last.
-fn port_picked(a: bool, b: bool, turn: u8) -> u8
-    ensures { result ≡ port_picked a b turn }
-{
-    if a {
-        if b {
-            if turn == A {
-                return B;
-            }
+impl Port {
+    // The number by which a program in C, and the turn, name the port.
+    pub fn number(self) -> u8
+        ensures { result ≡ number_of self }
+    {
+        match self {
+            Port::A => 1,
+            Port::B => 2,
         }
-        return A;
     }
-    if b {
-        return B;
-    }
-    NONE
 }
 
-// Picks the port that is served next, and returns its waiting slice as it stands in its buffer. The turn then keeps that port.
-// Refused, with number 17, where neither waits: no port, no bytes, and the turn as it was.
-pub fn choose<'a>(
-    turn: &mut u8,
-    a: &'a [u8],
-    waiting_a: usize,
-    b: &'a [u8],
-    waiting_b: usize,
-    number: &mut u8,
-    port: &mut u8,
-) -> &'a [u8]
-    ensures { Picked (pick (buffers a.now waiting_a b.now waiting_b) turn.old) number.new port.new turn.new result.now }
+// The turn of a new box, in which no port was served last.
+pub const FRESH: u8 = 0;
+
+// What a port lends: a buffer, and how many bytes of it wait.
+#[derive(Clone, Copy)]
+pub struct Buffer<'a> {
+    pub bytes: &'a [u8],
+    pub waiting: usize,
+}
+
+impl<'a> Buffer<'a> {
+    // The waiting slice. A waiting length of zero, or beyond the buffer, means none.
+    #[tactic(auto, unfolding(crate::specs::Turn::is_waiting))]
+    pub fn slice(self) -> Option<&'a [u8]>
+        ensures { option_map (λ s. s.now) result ≡ waiting_in self.entry.bytes.now self.entry.waiting }
+    {
+        if self.waiting == 0 {
+            return None;
+        }
+        self.bytes.get(..self.waiting)
+    }
+}
+
+// A port that is picked, and its waiting slice as it stands in its buffer.
+#[derive(Clone, Copy)]
+pub struct Choice<'a> {
+    pub port: Port,
+    pub part: &'a [u8],
+}
+
+// Picks the port that is served next: of two where a slice waits, the one not served last. The turn then keeps that port.
+// Refused with 17 IDLE where neither waits: the turn stays as it was.
+#[tactic(auto, unfolding(crate::specs::Turn::pick, crate::specs::Turn::port_picked, crate::specs::Turn::slice_at))]
+pub fn choose<'a>(turn: &mut u8, a: Buffer<'a>, b: Buffer<'a>) -> Result<Choice<'a>, Refusal>
+    ensures { Picked (pick (buffers a.entry.bytes.now a.entry.waiting b.entry.bytes.now b.entry.waiting) turn.old) (refusal_number result) (port_in result) turn.new (part_in result) }
 {
-    let picked = port_picked(is_waiting(a, waiting_a), is_waiting(b, waiting_b), *turn);
-    *port = picked;
-    if picked == NONE {
-        *number = 17;
-        return &a[..0];
-    }
-    *number = 0;
-    *turn = picked;
-    if picked == A {
-        return &a[..waiting_a];
-    }
-    &b[..waiting_b]
+    let choice = match (a.slice(), b.slice()) {
+        (Some(_), Some(part)) if *turn == Port::A.number() => Choice {
+            port: Port::B,
+            part,
+        },
+        (Some(part), _) => Choice {
+            port: Port::A,
+            part,
+        },
+        (None, Some(part)) => Choice {
+            port: Port::B,
+            part,
+        },
+        (None, None) => return Err(Refusal::Idle),
+    };
+    *turn = choice.port.number();
+    Ok(choice)
 }

@@ -1,5 +1,4 @@
--- Laws about parts of a slice, about fields, which are cut by the place of the next SP, and about what a reader hands
--- back.
+-- Laws about parts of a slice, and about fields, which are cut by the place of the next SP.
 use Prim.Native.Nat.{ℕ, zero, suc, ◌+◌, ◌-◌, ◌≤◌, ◌<◌}
 use mathlib.Core.Path.{◌≡◌, refl, ap, ◌∙◌}
 use mathlib.Core.Bool.{Bool, true, false, cond}
@@ -15,7 +14,6 @@ use Rattle.text.specs.Scan.{until, before}
 use Rattle.text.proofs.Laws.{Skips, skips_stop}
 use Rattle.text.proofs.Fields.{until_within}
 use Rattle.frame.specs.Fields.{first, more, fields}
-use Rattle.frame.specs.Frame.{Reading, Read}
 
 -- ---- a part of a slice, cut at its start or at its end first
 
@@ -89,8 +87,3 @@ fields_cons us vs p =
 pub fields_one : (us : List ℕ) → Skips (λ b. eqb b 32) us → fields us ≡ us ∷ []
 unfolding until
 fields_one us p = fields_last us (length us) (omega (arith, p [], ap (before 32) (append-nil us))) refl
-
--- ---- three answers that are those of a reading
-
-pub answers : {o : Reading} → Read o o.number o.station o.body
-answers = record { number_is = refl; station_is = refl; body_is = refl }

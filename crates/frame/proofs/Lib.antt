@@ -1,5 +1,6 @@
 pub mod Laws
 pub mod Pass
+pub mod Checks
 pub mod Station
 pub mod Writing
 pub mod Reading

@@ -4,8 +4,7 @@ use mathlib.Core.Path.{◌≡◌, refl, sym, ap, subst, ◌∙◌}
 use mathlib.Core.Bool.{Bool, true, false, cond, not, ◌||◌}
 use mathlib.Core.List.{List, [], ◌∷◌, map}
 use mathlib.Core.Logic.{◌⊎◌, inl, inr}
-use mathlib.Core.Option
-use mathlib.Core.Option.{Option, some}
+use Rattle.std.specs.Prelude.{Option, Some, unwrap_or}
 use native.Mathlib.Omega.{arith}
 use borrow.Author.Tests.{ltb-true, ltb-false, eqb-true, eqb-false, not-false}
 use lib.Arith.{lt_of_le-ne}
@@ -86,7 +85,7 @@ module _ (s : List ℕ) (p : ℕ) (h : p ≤ length s) where
 
 -- ---- the field that offends
 
-or_else : (t : Bool) (o : Option ℕ) (p q : ℕ) → Option.get_or (cond t o (some p)) q ≡ cond t (Option.get_or o q) p
+or_else : (t : Bool) (o : Option ℕ) (p q : ℕ) → unwrap_or (cond t o (Some p)) q ≡ cond t (unwrap_or o q) p
 or_else true o p q = refl
 or_else false o p q = refl
 

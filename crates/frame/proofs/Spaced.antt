@@ -3,7 +3,8 @@ use Prim.Native.Nat.{ℕ, zero, suc, ◌+◌, ◌*◌, ◌≤◌, ◌<◌}
 use mathlib.Core.Path.{◌≡◌, refl, ap, ap₂, ◌∙◌}
 use mathlib.Core.Bool.{Bool, false, cond}
 use mathlib.Core.List.{List, [], ◌∷◌, ◌++◌, map, append-nil}
-use mathlib.Core.Option.{Option, none, some, some-injective, none-ne-some}
+use Rattle.std.specs.Prelude.{Option, None, Some}
+use Rattle.std.proofs.lemmas.Option.{none-some, same_Some}
 use native.Mathlib.Omega.{arith}
 use native.Mathlib.Decide.{ℕ_discrete}
 use native.Mathlib.Nat.{mul-suc}
@@ -57,32 +58,32 @@ fields_spaced t [] a = rw (append-nil t) (fields_one t a.0)
 fields_spaced t (u ∷ us) a = rw (fields_cons t (spaced (u ∷ us)) a.0) (ap (λ ts. t ∷ ts) (fields_spaced u us a.1))
 
 -- fields that each read back
-pub fields_back : {A : Type 0} (read : List ℕ → Option A) (write : A → List ℕ) (xs : List A) → Each (λ x. read (write x) ≡ some x) xs → read_fields read (length xs) (map write xs) ≡ some xs
+pub fields_back : {A : Type 0} (read : List ℕ → Option A) (write : A → List ℕ) (xs : List A) → Each (λ x. read (write x) ≡ Some x) xs → read_fields read (length xs) (map write xs) ≡ Some xs
 unfolding read_fields
 fields_back read write [] a = refl
 fields_back read write (x ∷ xs) a = ap₂ with_first a.0 (fields_back read write xs a.1)
 
 -- what is read from n fields: n values, and of each what reading it tells
-module _ {A : Type 0} (P : A → Type 0) (read : List ℕ → Option A) (tells : (f : List ℕ) (x : A) → read f ≡ some x → P x) where
-  pub fields_each : (n : ℕ) (fs : List (List ℕ)) (xs : List A) → read_fields read n fs ≡ some xs → Each P xs × (length xs ≡ n)
+module _ {A : Type 0} (P : A → Type 0) (read : List ℕ → Option A) (tells : (f : List ℕ) (x : A) → read f ≡ Some x → P x) where
+  pub fields_each : (n : ℕ) (fs : List (List ℕ)) (xs : List A) → read_fields read n fs ≡ Some xs → Each P xs × (length xs ≡ n)
   unfolding read_fields
-  fields_each zero [] xs e = rw (← some-injective [] xs e) (tt, refl)
-  fields_each zero (f ∷ fs) xs e = absurd (none-ne-some xs e)
-  fields_each (suc n) [] xs e = absurd (none-ne-some xs e)
+  fields_each zero [] xs e = rw (← same_Some [] xs e) (tt, refl)
+  fields_each zero (f ∷ fs) xs e = absurd (none-some xs e)
+  fields_each (suc n) [] xs e = absurd (none-some xs e)
   fields_each (suc n) (f ∷ fs) xs e = go (read f) (read_fields read n fs) refl refl e (fields_each n fs)
     where
       go :
           (o : Option A) (os : Option (List A)) →
           read f ≡ o →
           read_fields read n fs ≡ os →
-          with_first o os ≡ some xs →
-          ((ys : List A) → read_fields read n fs ≡ some ys → Each P ys × (length ys ≡ n)) →
+          with_first o os ≡ Some xs →
+          ((ys : List A) → read_fields read n fs ≡ Some ys → Each P ys × (length ys ≡ n)) →
           Each P xs × (length xs ≡ suc n)
-      go (some v) (some vs) p q e ih =
+      go (Some v) (Some vs) p q e ih =
           let r = ih vs q in
-          rw (← some-injective (v ∷ vs) xs e) ((tells f v p, r.0), omega (arith, r.1))
-      go (some v) none p q e ih = absurd (none-ne-some xs e)
-      go none os p q e ih = absurd (none-ne-some xs e)
+          rw (← same_Some (v ∷ vs) xs e) ((tells f v p, r.0), omega (arith, r.1))
+      go (Some v) None p q e ih = absurd (none-some xs e)
+      go None os p q e ih = absurd (none-some xs e)
 
 -- ---- the fields that are left where the next one starts at p: none past the end
 

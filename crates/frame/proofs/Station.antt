@@ -3,20 +3,21 @@ use Prim.Native.Nat.{ℕ, zero, suc, ◌+◌, ◌-◌, ◌*◌, ◌≤◌, ◌<�
 use mathlib.Core.Path.{◌≡◌, refl, sym, ◌∙◌}
 use mathlib.Core.Bool.{Bool, true, false, cond, ◌&&◌}
 use mathlib.Core.List.{List, [], ◌∷◌}
-use mathlib.Core.Option.{Option, none}
+use Rattle.std.specs.Prelude.{Option, None}
 use native.Mathlib.Omega.{arith}
 use lib.Arith.{lt_of_le-ne}
 use borrow.Author.Tests.{le-leb, lt-leb, le-ltb, lt-ltb, eq-eqb, ne_eqb, eqb-false}
 use lib.Dec.{ltb, leb, eqb}
 use lib.ListN.{length, get_or, take, drop}
 use Rattle.text.specs.Scan.{until, before}
+use Rattle.text.proofs.Laws.{rest}
 use Rattle.text.specs.Whole.{is_digit, digits_onto, read_whole}
 use Rattle.frame.specs.Frame.{refused_frame, stray, up_to99, with_station, station_of, station_at, Station, read_inner}
 
 -- ---- a station has at most two digits
 
 -- no number is none
-malformed : (t : Bool) (w : Option ℕ) → up_to99 w ≡ 0 → up_to99 (cond t w none) ≡ 0
+malformed : (t : Bool) (w : Option ℕ) → up_to99 w ≡ 0 → up_to99 (cond t w None) ≡ 0
 malformed true w e = e
 malformed false w e = refl
 
@@ -46,11 +47,11 @@ unfolding station_of read_whole
 empty = refl
 
 -- a text that does not start with a digit is no number
-unread : (a : ℕ) (ds : List ℕ) → is_digit a ≡ false → read_whole (a ∷ ds) ≡ none
+unread : (a : ℕ) (ds : List ℕ) → is_digit a ≡ false → read_whole (a ∷ ds) ≡ None
 unfolding read_whole digits_onto
 unread a ds e = rw e (same (leb 1 (suc (length ds)) && leb (suc (length ds)) 4))
   where
-    same : (t : Bool) → ◌≡◌ {A = Option ℕ} (cond t none none) none
+    same : (t : Bool) → ◌≡◌ {A = Option ℕ} (cond t None None) None
     same true = refl
     same false = refl
 
@@ -72,7 +73,7 @@ onto :
     (a : ℕ) (ds : List ℕ) →
     49 ≤ a →
     a ≤ 57 →
-    station_of (a ∷ ds) ≡ up_to99 (cond (leb (suc (length ds)) 4) (digits_onto (a - 48) ds) none)
+    station_of (a ∷ ds) ≡ up_to99 (cond (leb (suc (length ds)) 4) (digits_onto (a - 48) ds) None)
 unfolding station_of read_whole digits_onto
 onto a ds h k =
     let e : 0 * 10 + (a - 48) ≡ a - 48 = omega arith in
@@ -94,7 +95,7 @@ ended : (t : List ℕ) (e : ℕ) → before 32 t ≡ e → (e ≡ length t → �
 ended t e p n = rw (p, ne_eqb e (length t) n)
 
 -- the text may be given by its first three bytes and the rest
-pub by_bytes :
+by_bytes :
     (t : List ℕ) {v : ℕ} →
     3 ≤ length t →
     Station (get_or t 0 0 ∷ get_or t 1 0 ∷ get_or t 2 0 ∷ drop 3 t) v →
@@ -112,14 +113,14 @@ first_none a t p = either (eqb (before 32 (a ∷ t)) (length (a ∷ t))) (part (
     part (suc k) = p (take k t)
 
 module _ (a b c : ℕ) (t : List ℕ) where
-  pub first_low : a < 49 → Station (a ∷ b ∷ c ∷ t) 0
+  first_low : a < 49 → Station (a ∷ b ∷ c ∷ t) 0
   first_low h = no_station (first_none a (b ∷ c ∷ t) (λ ds. low a ds h))
 
-  pub first_high : 57 < a → Station (a ∷ b ∷ c ∷ t) 0
+  first_high : 57 < a → Station (a ∷ b ∷ c ∷ t) 0
   first_high h = no_station (first_none a (b ∷ c ∷ t) (λ ds. high a ds h))
 
   module _ (h : 49 ≤ a) (k : a ≤ 57) where
-    pub one_digit : b ≡ 32 → Station (a ∷ b ∷ c ∷ t) (a - 48)
+    one_digit : b ≡ 32 → Station (a ∷ b ∷ c ∷ t) (a - 48)
     unfolding until digits_onto
     one_digit e =
         let p : before 32 (a ∷ b ∷ c ∷ t) ≡ 1 = simp (ne_eqb a 32 (λ q. omega arith), eq-eqb b 32 e) in
@@ -130,7 +131,7 @@ module _ (a b c : ℕ) (t : List ℕ) where
           two_digits = λ l. absurd (omega arith);
         }
 
-    pub second_bad : (b ≡ 32 → ⊥) → is_digit b ≡ false → Station (a ∷ b ∷ c ∷ t) 0
+    second_bad : (b ≡ 32 → ⊥) → is_digit b ≡ false → Station (a ∷ b ∷ c ∷ t) 0
     unfolding until digits_onto
     second_bad n e =
         let u : ℕ = before 32 (c ∷ t) in
@@ -140,7 +141,7 @@ module _ (a b c : ℕ) (t : List ℕ) where
         let p : ℕ = suc (suc u) in
         no_station (rw (ne_eqb a 32 (λ q. omega arith), ne_eqb b 32 n) (either (eqb p (suc (suc (suc (length t))))) v))
 
-    pub third_bad : (b ≡ 32 → ⊥) → (c ≡ 32 → ⊥) → Station (a ∷ b ∷ c ∷ t) 0
+    third_bad : (b ≡ 32 → ⊥) → (c ≡ 32 → ⊥) → Station (a ∷ b ∷ c ∷ t) 0
     unfolding until
     third_bad n m =
         let u : ℕ = before 32 t in
@@ -154,7 +155,7 @@ module _ (a b c : ℕ) (t : List ℕ) where
         (ne_eqb a 32 (λ q. omega arith), ne_eqb b 32 n, ne_eqb c 32 m)
         (either (eqb p (suc (suc (suc (length t))))) v))
 
-    pub two_digits : 48 ≤ b → b ≤ 57 → c ≡ 32 → Station (a ∷ b ∷ c ∷ t) ((a - 48) * 10 + (b - 48))
+    two_digits : 48 ≤ b → b ≤ 57 → c ≡ 32 → Station (a ∷ b ∷ c ∷ t) ((a - 48) * 10 + (b - 48))
     unfolding until digits_onto
     two_digits i j e =
         let m = ne_eqb a 32 (λ q. omega arith) in
@@ -172,7 +173,7 @@ module _ (a b c : ℕ) (t : List ℕ) where
 -- ---- what stands between STX and ETX, where no byte is stray
 
 module _ (t : List ℕ) (clean : ltb (stray t) (length t) ≡ false) where
-  pub inner_none : station_at t ≡ 0 → read_inner t ≡ refused_frame 7
+  inner_none : station_at t ≡ 0 → read_inner t ≡ refused_frame 7
   unfolding read_inner
   inner_none e = rw clean (go (eqb (before 32 t) (length t)) e)
     where
@@ -184,7 +185,7 @@ module _ (t : List ℕ) (clean : ltb (stray t) (length t) ≡ false) where
       go true p = refl
       go false p = rw p
 
-  pub inner_some :
+  inner_some :
       (v e : ℕ) →
       v ≡ station_at t →
       (v ≡ 0 → ⊥) →
@@ -201,3 +202,41 @@ module _ (t : List ℕ) (clean : ltb (stray t) (length t) ≡ false) where
           cond b (refused_frame 7) (with_station w rest) ≡ record { number = 0; station = v; body = rest }
       go true p = absurd (n p)
       go false p = rw (← p, ne_eqb v 0 n)
+
+-- ---- the same of a text by its bytes
+
+module _ (t : List ℕ) (h : 3 ≤ length t) where
+  pub starts_low : get_or t 0 0 < 49 → Station t 0
+  starts_low k = by_bytes t h (first_low _ _ _ _ k)
+
+  pub starts_high : 57 < get_or t 0 0 → Station t 0
+  starts_high k = by_bytes t h (first_high _ _ _ _ k)
+
+  module _ (i : 49 ≤ get_or t 0 0) (j : get_or t 0 0 ≤ 57) where
+    pub reads_one : get_or t 1 0 ≡ 32 → Station t (get_or t 0 0 - 48)
+    reads_one e = by_bytes t h (one_digit _ _ _ _ i j e)
+
+    pub reads_none : (get_or t 1 0 ≡ 32 → ⊥) → is_digit (get_or t 1 0) ≡ false → Station t 0
+    reads_none n e = by_bytes t h (second_bad _ _ _ _ i j n e)
+
+    pub ends_late : (get_or t 1 0 ≡ 32 → ⊥) → (get_or t 2 0 ≡ 32 → ⊥) → Station t 0
+    ends_late n m = by_bytes t h (third_bad _ _ _ _ i j n m)
+
+    pub reads_two : 48 ≤ get_or t 1 0 → get_or t 1 0 ≤ 57 → get_or t 2 0 ≡ 32 → Station t ((get_or t 0 0 - 48) * 10 + (get_or t 1 0 - 48))
+    reads_two k l e = by_bytes t h (two_digits _ _ _ _ i j k l e)
+
+-- for `read_station`
+pub ruleset stations = (starts_low, starts_high, reads_one, reads_none, ends_late, reads_two)
+
+-- ---- what is read then, where no byte is stray
+
+module _ (t : List ℕ) (clean : ltb (stray t) (length t) ≡ false) where
+  pub none_is : Station t 0 → read_inner t ≡ refused_frame 7
+  none_is p = inner_none t clean (sym p.value_is)
+
+  module _ (v : ℕ) (p : Station t v) where
+    pub one_is : 0 < v → v < 10 → read_inner t ≡ record { number = 0; station = v; body = take (length t - 2) (drop 2 t) }
+    one_is l h = inner_some t clean v 1 p.value_is (λ e. omega arith) (p.one_digit l h) ∙ rw (rest 2 t)
+
+    pub two_is : 10 ≤ v → read_inner t ≡ record { number = 0; station = v; body = take (length t - 3) (drop 3 t) }
+    two_is l = inner_some t clean v 2 p.value_is (λ e. omega arith) (p.two_digits l) ∙ rw (rest 3 t)

@@ -1,6 +1,5 @@
 -- The fields of a body (document 01, "The frame"): parted by one SP (20h) each.
-use Rattle.std.specs.Prelude.{ℕ, zero, suc, Bool, false, cond, List, [], ◌∷◌, ◌++◌, eqb, length, drop}
-use Rattle.std.proofs.Math.Option.{Option, none, some, get_or}
+use Rattle.std.specs.Prelude.{ℕ, zero, suc, Bool, false, cond, List, [], ◌∷◌, ◌++◌, eqb, length, drop, Option, None, Some, unwrap_or}
 
 -- the bytes before the first SP
 unfoldable pub first : List ℕ → List ℕ
@@ -36,21 +35,21 @@ placed at s = record { position = at; text = first s } ∷ placed_more at s
 -- ---- fields read as values of one type
 
 abbrev pub with_first : {A : Type 0} → Option A → Option (List A) → Option (List A)
-with_first (some v) (some vs) = some (v ∷ vs)
-with_first (some v) none = none
-with_first none vs = none
+with_first (Some v) (Some vs) = Some (v ∷ vs)
+with_first (Some v) None = None
+with_first None vs = None
 
 -- n fields: no fewer and no more, and none malformed
 unfoldable pub read_fields : {A : Type 0} → (List ℕ → Option A) → ℕ → List (List ℕ) → Option (List A)
-read_fields read zero [] = some []
-read_fields read zero (f ∷ fs) = none
-read_fields read (suc n) [] = none
+read_fields read zero [] = Some []
+read_fields read zero (f ∷ fs) = None
+read_fields read (suc n) [] = None
 read_fields read (suc n) (f ∷ fs) = with_first (read f) (read_fields read n fs)
 
 -- what was read passes a test
 abbrev pub reads_as : {A : Type 0} → (A → Bool) → Option A → Bool
-reads_as test (some v) = test v
-reads_as test none = false
+reads_as test (Some v) = test v
+reads_as test None = false
 
 -- ---- fields written
 
@@ -68,9 +67,9 @@ spaced (t ∷ ts) = t ++ following ts
 
 -- where the first field stands that fails its test, of those that have one
 abbrev pub first_failing : List (List ℕ → Bool) → List Placed → Option ℕ
-first_failing [] fs = none
-first_failing (t ∷ ts) [] = none
-first_failing (t ∷ ts) (f ∷ fs) = cond (t f.text) (first_failing ts fs) (some f.position)
+first_failing [] fs = None
+first_failing (t ∷ ts) [] = None
+first_failing (t ∷ ts) (f ∷ fs) = cond (t f.text) (first_failing ts fs) (Some f.position)
 
 -- where the first of these fields stands; ETX where there is none
 abbrev pub start_of : ℕ → List Placed → ℕ
@@ -79,4 +78,4 @@ start_of etx (f ∷ fs) = f.position
 
 -- the first field that fails its test; if none does, the first surplus field, or ETX where fields lack
 unfoldable pub offending : ℕ → List (List ℕ → Bool) → List Placed → ℕ
-offending etx ts fs = get_or (first_failing ts fs) (start_of etx (drop (length ts) fs))
+offending etx ts fs = unwrap_or (first_failing ts fs) (start_of etx (drop (length ts) fs))

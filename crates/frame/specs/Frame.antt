@@ -1,6 +1,8 @@
 -- Frames, read and written (document 01, "The frame" and refusals 2 to 7).
-use Rattle.std.specs.Prelude.{ℕ, suc, ◌+◌, ◌-◌, ◌≤◌, ◌<◌, ◌≡◌, Bool, cond, not, ◌||◌, List, [], ◌∷◌, ◌++◌, length, get_or, take, drop, ltb, eqb}
-use Rattle.std.proofs.Math.Option.{Option, none, some}
+use Rattle.std.specs.Prelude.{ℕ, suc, ◌+◌, ◌-◌, ◌≤◌, ◌<◌, ◌≡◌, Bool, cond, not, ◌||◌, List, [], ◌∷◌, ◌++◌, length, get_or, take, drop, ltb, eqb, Option, Some, None, Result, Ok, Err}
+use Rattle.refusals.specs.declared.refusal.Refused.{Refused}
+use Rattle.refusals.specs.Refusal.{number_of}
+use Rattle.frame.specs.declared.reader.Frame.{Frame}
 use Rattle.std.proofs.Math.Seq.{slice}
 use Rattle.text.specs.Scan.{until, before}
 use Rattle.text.specs.Whole.{read_whole, shortest}
@@ -12,15 +14,14 @@ pub record Reading : Type 0 where
   pub station : ℕ
   pub body : List ℕ
 
--- the reader's three answers are those of a reading
-pub record Read (o : Reading) (number station : ℕ) (body : List ℕ) : Type 0 where
-  pub number_is : number ≡ o.number
-  pub station_is : station ≡ o.station
-  pub body_is : body ≡ o.body
-
 -- a refusal hands back station 0 and an empty part
 abbrev pub refused_frame : ℕ → Reading
 refused_frame n = record { number = n; station = 0; body = [] }
+
+-- what the reader's answer says: an accepted frame, or the number of its refusal
+abbrev pub reading_of : Result Frame Refused → Reading
+reading_of (Ok f) = record { number = 0; station = f.station; body = f.body.now }
+reading_of (Err r) = record { number = number_of r.refusal; station = 0; body = [] }
 
 -- a byte outside 20h..7Eh
 abbrev pub is_stray : ℕ → Bool
@@ -32,8 +33,8 @@ stray = until is_stray
 
 -- a number from 1 to 99, or 0
 abbrev pub up_to99 : Option ℕ → ℕ
-up_to99 (some v) = cond (ltb 99 v) 0 v
-up_to99 none = 0
+up_to99 (Some v) = cond (ltb 99 v) 0 v
+up_to99 None = 0
 
 -- the station that a text is: decimal, 1 to 99, with no leading zero; 0 where it is none
 unfoldable pub station_of : List ℕ → ℕ

@@ -1,9 +1,18 @@
 // The frame reader: checks 2 to 7 of a slice, in their order.
-ghost use Rattle.std.specs.Prelude.{◌≡◌, false, List, ℕ, ◌≤◌, length, ltb};
+ghost use Rattle.std.specs.Prelude.{◌≡◌, false, List, ℕ, ◌≤◌, ◌<◌, length, ltb, unwrap_or, IfSome};
+ghost use Rattle.refusals.specs.Refusal.{refused_position};
 ghost use Rattle.frame.specs.Checksum.{lrc_of};
-ghost use Rattle.frame.specs.Frame.{stray, Station, read_inner, read_frame, frame_position, Read};
+ghost use Rattle.frame.specs.Frame.{stray, Station, read_inner, read_frame, frame_position, reading_of};
 
 use crate::{ETX, STX};
+use refusals::refusal::{Refusal, Refused};
+
+// An accepted frame: its station, and its body as a part of the slice.
+#[derive(Clone, Copy)]
+pub struct Frame<'a> {
+    pub station: u8,
+    pub body: &'a [u8],
+}
 
 // What `lrc_and_stray` finds in a text.
 #[derive(Clone, Copy)]
@@ -14,18 +23,16 @@ pub struct Scanned {
 
 // The exclusive or of all bytes of s, and whether one of them is outside 20h..7Eh.
 // One pass over s, to its end, with no early exit.
+#[tactic(auto, using(crate::proofs::Pass::passes), unfolding(crate::specs::Checksum::lrc_of))]
 fn lrc_and_stray(s: &[u8]) -> Scanned
     ensures sum_value { result.sum ≡ lrc_of s.now }
     ensures stray_value { result.stray ≡ ltb (stray s.now) (length s.now) }
 {
     let mut sum: u8 = 0;
     let mut stray = false;
-    let mut i = 0;
-    while i < s.len() {
-        let b = s[i];
-        sum = sum ^ b;
-        stray = stray | (b < 32) | (126 < b);
-        i += 1;
+    for b in s {
+        sum ^= *b;
+        stray = stray | (*b < 32) | (126 < *b);
     }
     Scanned { sum, stray }
 }
@@ -35,115 +42,74 @@ fn find_stray(s: &[u8]) -> usize
     ensures value { result ≡ stray s.now }
     ensures upper_bound { result ≤ length s.now }
 {
-    let mut i = 0;
-    while i < s.len() {
-        let b = s[i];
-        if b < 32 {
-            return i;
-        }
-        if 126 < b {
-            return i;
-        }
-        i += 1;
-    }
-    i
+    s.iter()
+        .position(|b| *b < 32 || 126 < *b)
+        .unwrap_or(s.len())
 }
 
-// The station that stands before the first SP, of one or two digits; 0 where none does.
-fn read_station(inner: &[u8]) -> u8
+// The station that stands before the first SP, of one or two digits.
+#[tactic(auto, using(crate::proofs::Station::stations))]
+fn read_station(inner: &[u8]) -> Option<u8>
     requires { 3 ≤ length inner.now }
-    ensures { Station inner.now result }
+    ensures value { Station inner.now (unwrap_or result 0) }
+    ensures positive { IfSome result (λ v. 0 < v) }
 {
     let first = inner[0];
-    if first < b'1' {
-        return 0;
-    }
-    if b'9' < first {
-        return 0;
+    if first < b'1' || b'9' < first {
+        return None;
     }
     let second = inner[1];
     if second == b' ' {
-        return first - b'0';
+        return Some(first - b'0');
     }
-    if second < b'0' {
-        return 0;
+    if !second.is_ascii_digit() || inner[2] != b' ' {
+        return None;
     }
-    if b'9' < second {
-        return 0;
-    }
-    if inner[2] != b' ' {
-        return 0;
-    }
-    (first - b'0') * 10 + (second - b'0')
+    Some((first - b'0') * 10 + (second - b'0'))
 }
 
 // Check 7, of what stands between STX and ETX, where no byte is stray. The position is the same in any slice.
-fn read_inner<'a>(
-    inner: &'a [u8],
-    number: &mut u8,
-    station: &mut u8,
-    position: &mut usize,
-) -> &'a [u8]
-    requires in_bounds { (3 ≤ length inner.now) × (ltb (stray inner.now) (length inner.now) ≡ false) }
-    requires position_value { position.old ≡ 0 }
-    ensures read { Read (read_inner inner.now) number.new station.new result.now }
-    ensures position_value { (s : List ℕ) → position.new ≡ frame_position s number.new }
+#[tactic(auto, using(crate::proofs::Station::none_is), unfolding(crate::specs::Frame::frame_position))]
+fn read_inner(inner: &[u8]) -> Result<Frame<'_>, Refused>
+    requires { (3 ≤ length inner.now) × (ltb (stray inner.now) (length inner.now) ≡ false) }
+    ensures read { reading_of result ≡ read_inner inner.now }
+    ensures position_value { (s : List ℕ) → refused_position result ≡ frame_position s (read_inner inner.now).number }
 {
-    let value = read_station(inner);
-    *station = value;
-    if value == 0 {
-        *number = 7;
-        *position = 1;
-        return &inner[..0];
-    }
-    *number = 0;
-    if value < 10 {
-        return &inner[2..];
-    }
-    &inner[3..]
+    let Some(station) = read_station(inner) else {
+        return Err(Refused::at(Refusal::Station, 1));
+    };
+    let body = if station < 10 {
+        &inner[2..]
+    } else {
+        &inner[3..]
+    };
+    Ok(Frame { station, body })
 }
 
-// Reads a frame. Accepted: number 0, its station, and its body as a part of the slice. Refused: the number
-// of the first check that fails, station 0 and an empty part. The position in the slice is that of the first
-// stray byte for 6, 1 for 7, and 0 for every other number.
-pub fn read_frame<'a>(
-    slice: &'a [u8],
-    number: &mut u8,
-    station: &mut u8,
-    position: &mut usize,
-) -> &'a [u8]
-    ensures read { Read (read_frame slice.now) number.new station.new result.now }
-    ensures position_after { position.new ≡ frame_position slice.now number.new }
+// Reads a frame: its station, and its body as a part of the slice. Refused: the first check that fails. The position in the
+// slice is that of the first stray byte for 6, 1 for 7, and 0 for every other number.
+#[tactic(auto, using(crate::proofs::Checks::checks))]
+pub fn read_frame(slice: &[u8]) -> Result<Frame<'_>, Refused>
+    ensures read { reading_of result ≡ read_frame slice.now }
+    ensures position_after { refused_position result ≡ frame_position slice.now (read_frame slice.now).number }
 {
-    *station = 0;
-    *position = 0;
-    if slice.len() < 6 {
-        *number = 2;
-        return &slice[..0];
-    }
-    if 255 < slice.len() {
-        *number = 2;
-        return &slice[..0];
+    if slice.len() < 6 || 255 < slice.len() {
+        return Err(Refusal::Length.into());
     }
     if slice[0] != STX {
-        *number = 3;
-        return &slice[..0];
+        return Err(Refusal::Start.into());
     }
     let etx = slice.len() - 2;
     if slice[etx] != ETX {
-        *number = 4;
-        return &slice[..0];
+        return Err(Refusal::End.into());
     }
     let scanned = lrc_and_stray(&slice[1..etx]);
-    let last = slice.len() - 1;
-    if slice[last] != scanned.sum ^ ETX {
-        *number = 5;
-        return &slice[..0];
+    if slice[etx + 1] != scanned.sum ^ ETX {
+        return Err(Refusal::Lrc.into());
     }
     if scanned.stray {
-        *number = 6;
-        *position = find_stray(&slice[1..etx]) + 1;
-        return &slice[..0];
+        let position = find_stray(&slice[1..etx]) + 1;
+        return Err(Refused::at(Refusal::Stray, position));
     }
-    read_inner(&slice[1..etx], number, station, position)
+    read_inner(&slice[1..etx])
 }

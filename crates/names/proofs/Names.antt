@@ -1,4 +1,5 @@
 -- Laws of the names: what a text with the name of a command is, and where a name at the front of a text ends.
+use Rattle.std.specs.Prelude.{Option, None, Some}
 use Prim.Native.Nat.{ℕ, zero, suc, ◌≤◌, ◌<◌}
 use mathlib.Core.Path.{◌≡◌, refl, sym, ap, ap₂, ◌∙◌}
 use mathlib.Core.Bool.{Bool, true, false, cond, and-eq-true_iff}
@@ -14,15 +15,16 @@ use Rattle.text.proofs.Laws.{Skips, skips_all}
 use Rattle.text.proofs.Fields.{until_within, inside}
 use Rattle.names.specs.declared.command.Command.{Command}
 use Rattle.names.specs.declared.command.Command.TheVariants.{Lnt, Snt, Lnd, Snd, Lnl, Snl, Lnib, Lnob, Snob, Lnid, Lnod, Snod, Lnbb, Snbb, Lnbd, Snbd, Lna, Sna}
-use Rattle.names.specs.declared.command.Named.{Named}
-use Rattle.names.specs.declared.command.Named.TheVariants.{Is, Unknown}
-use Rattle.names.specs.Command.{same, name_of, commands, among, command_of, name_end}
+use Rattle.names.specs.Command.{same, name_of, commands, CommandsListed, among, command_of, name_end}
+
+pub commands_listed : CommandsListed
+commands_listed = refl
 
 -- ---- the names, by computation
 
 -- the name is read as the command, has no SP, and has three or four letters
 pub record Name (c : Command) : Type 0 where
-  pub named : command_of (name_of c) ≡ Is c
+  pub named : command_of (name_of c) ≡ Some c
   pub solid : before 32 (name_of c) ≡ length (name_of c)
   pub least : ltb 2 (length (name_of c)) ≡ true
   pub most : ltb (length (name_of c)) 5 ≡ true
@@ -63,16 +65,16 @@ same_is (x ∷ xs) (y ∷ ys) e =
     let p = (and-eq-true_iff (eqb x y) (same xs ys)).0 e in
     ap₂ ◌∷◌ (eqb-true x y p.0) (same_is xs ys p.1)
 
-among_is : (cs : List Command) (s : List ℕ) {k : Command} → among cs s ≡ Is k → s ≡ name_of k
+among_is : (cs : List Command) (s : List ℕ) {k : Command} → among cs s ≡ Some k → s ≡ name_of k
 unfolding among
 among_is [] s e = let z : ◌≡◌ {A = ℕ} 0 1 = cc in absurd (omega arith)
 among_is (c ∷ cs) s {k} e = go (same s (name_of c)) refl e (among_is cs s)
   where
-    go : (t : Bool) → same s (name_of c) ≡ t → cond t (Is c) (among cs s) ≡ Is k → (among cs s ≡ Is k → s ≡ name_of k) → s ≡ name_of k
+    go : (t : Bool) → same s (name_of c) ≡ t → cond t (Some c) (among cs s) ≡ Some k → (among cs s ≡ Some k → s ≡ name_of k) → s ≡ name_of k
     go true p e h = let z : c ≡ k = cc in same_is s (name_of c) p ∙ ap name_of z
     go false p e h = h e
 
-command_is : {s : List ℕ} {k : Command} → command_of s ≡ Is k → s ≡ name_of k
+command_is : {s : List ℕ} {k : Command} → command_of s ≡ Some k → s ≡ name_of k
 unfolding command_of
 command_is {s} e = among_is commands s e
 
@@ -129,7 +131,7 @@ module _ (s : List ℕ) where
           absurd (omega arith)
 
   -- an end that is not 0 is one
-  pub end_within : name_end s ≤ length s
+  end_within : name_end s ≤ length s
   end_within = go (ltb (length s) 3) (empty_or 32 (drop 3 s)) (empty_or 32 (drop 4 s)) refl refl
     where
       go : (t u v : Bool) → ltb (length s) 3 ≡ t → empty_or 32 (drop 3 s) ≡ u → cond t 0 (cond u 3 (cond v 4 0)) ≤ length s
@@ -148,7 +150,7 @@ module _ (s : List ℕ) where
       go false false false b c h = absurd (omega arith)
 
   -- what is a command ends at the first SP, and what is none is none
-  pub name_ends : (k : Command) → command_of (take (name_end s) s) ≡ Is k → name_end s ≡ before 32 s
+  pub name_ends : (k : Command) → command_of (take (name_end s) s) ≡ Some k → name_end s ≡ before 32 s
   name_ends k e =
       let q = command_is e in
       let n : length (name_of k) ≡ name_end s = rw (← q) (length-take-le (name_end s) s end_within) in
@@ -157,7 +159,7 @@ module _ (s : List ℕ) where
   pub name_read : command_of (take (name_end s) s) ≡ command_of (take (before 32 s) s)
   name_read = go (command_of (take (before 32 s) s)) (command_of (take (name_end s) s)) refl refl
     where
-      go : (f n : Named) → command_of (take (before 32 s) s) ≡ f → command_of (take (name_end s) s) ≡ n → n ≡ f
-      go (Is k) n p q = sym q ∙ rw (found k (command_is p)) p
-      go Unknown (Is k) p q = sym q ∙ rw (name_ends k q) p
-      go Unknown Unknown p q = refl
+      go : (f n : Option Command) → command_of (take (before 32 s) s) ≡ f → command_of (take (name_end s) s) ≡ n → n ≡ f
+      go (Some k) n p q = sym q ∙ rw (found k (command_is p)) p
+      go None (Some k) p q = sym q ∙ rw (name_ends k q) p
+      go None None p q = refl

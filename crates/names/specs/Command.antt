@@ -1,10 +1,9 @@
 -- The names of the commands (document 01, "Commands"; for LNA and SNA document 02, E3).
-use Rattle.std.specs.Prelude.{ℕ, Bool, true, false, cond, ◌&&◌, List, [], ◌∷◌, eqb, ltb, length, drop}
+use Rattle.std.specs.Prelude.{ℕ, ◌≡◌, Bool, true, false, cond, ◌&&◌, List, [], ◌∷◌, eqb, ltb, length, drop, Option, None, Some}
 use Rattle.text.specs.Scan.{empty_or}
+use Rattle.names.specs.declared.command.TheConstants.{COMMANDS}
 use Rattle.names.specs.declared.command.Command.{Command}
 use Rattle.names.specs.declared.command.Command.TheVariants.{Lnt, Snt, Lnd, Snd, Lnl, Snl, Lnib, Lnob, Snob, Lnid, Lnod, Snod, Lnbb, Snbb, Lnbd, Snbd, Lna, Sna}
-use Rattle.names.specs.declared.command.Named.{Named}
-use Rattle.names.specs.declared.command.Named.TheVariants.{Is, Unknown}
 
 -- two byte strings are the same
 unfoldable pub same : List ℕ → List ℕ → Bool
@@ -39,12 +38,16 @@ abbrev pub commands : List Command
 commands =
     Lnt ∷ Snt ∷ Lnd ∷ Snd ∷ Lnl ∷ Snl ∷ Lnib ∷ Lnob ∷ Snob ∷ Lnid ∷ Lnod ∷ Snod ∷ Lnbb ∷ Snbb ∷ Lnbd ∷ Snbd ∷ Lna ∷ Sna ∷ []
 
--- the first of them that has the name
-unfoldable pub among : List Command → List ℕ → Named
-among [] s = Unknown
-among (c ∷ cs) s = cond (same s (name_of c)) (Is c) (among cs s)
+-- the program's table is that list (proved in proofs/Names.antt)
+abbrev pub CommandsListed : Type 0
+CommandsListed = COMMANDS ≡ commands
 
-unfoldable pub command_of : List ℕ → Named
+-- the first of them that has the name
+unfoldable pub among : List Command → List ℕ → Option Command
+among [] s = None
+among (c ∷ cs) s = cond (same s (name_of c)) (Some c) (among cs s)
+
+unfoldable pub command_of : List ℕ → Option Command
 command_of s = among commands s
 
 -- where a name of three or four letters at the front of a text ends, which SP or the text's end follows; 0 for none

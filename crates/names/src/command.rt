@@ -1,12 +1,11 @@
 // The names of the commands: sixteen of document 01, LNA and SNA of document 02 (E3). They are compared and written as
 // fixed byte strings.
-ghost use Rattle.std.specs.Prelude.{◌≡◌, ◌≤◌, ◌+◌, length};
+ghost use Rattle.std.specs.Prelude.{◌≡◌, ◌≤◌, ◌+◌, length, IfSome, unwrap_or};
 ghost use Rattle.text.specs.Put.{Put};
-ghost use Rattle.text.specs.Scan.{field_at, end_at};
-ghost use Rattle.names.specs.declared.command.Command.{Command};
-ghost use Rattle.names.specs.declared.command.Named.TheVariants.{Is};
+ghost use Rattle.text.specs.Read.{field_with};
 ghost use Rattle.names.specs.Command.{same, name_of, command_of, name_end};
 
+use text::field::{At, Field};
 use text::put::{Cursor, put_bytes};
 use text::scan::is_end;
 
@@ -33,192 +32,150 @@ pub enum Command {
     Sna,
 }
 
-const LNT: [u8; 3] = *b"LNT";
+// Every command, in the order of the codes by which a program in C names them (`CommandsListed` of specs/Command.antt).
+pub const COMMANDS: [Command; 18] = [
+    Command::Lnt,
+    Command::Snt,
+    Command::Lnd,
+    Command::Snd,
+    Command::Lnl,
+    Command::Snl,
+    Command::Lnib,
+    Command::Lnob,
+    Command::Snob,
+    Command::Lnid,
+    Command::Lnod,
+    Command::Snod,
+    Command::Lnbb,
+    Command::Snbb,
+    Command::Lnbd,
+    Command::Snbd,
+    Command::Lna,
+    Command::Sna,
+];
 
-const SNT: [u8; 3] = *b"SNT";
-
-const LND: [u8; 3] = *b"LND";
-
-const SND: [u8; 3] = *b"SND";
-
-const LNL: [u8; 3] = *b"LNL";
-
-const SNL: [u8; 3] = *b"SNL";
-
-const LNIB: [u8; 4] = *b"LNIB";
-
-const LNOB: [u8; 4] = *b"LNOB";
-
-const SNOB: [u8; 4] = *b"SNOB";
-
-const LNID: [u8; 4] = *b"LNID";
-
-const LNOD: [u8; 4] = *b"LNOD";
-
-const SNOD: [u8; 4] = *b"SNOD";
-
-const LNBB: [u8; 4] = *b"LNBB";
-
-const SNBB: [u8; 4] = *b"SNBB";
-
-const LNBD: [u8; 4] = *b"LNBD";
-
-const SNBD: [u8; 4] = *b"SNBD";
-
-const LNA: [u8; 3] = *b"LNA";
-
-const SNA: [u8; 3] = *b"SNA";
-
-// What a name is.
-#[derive(Clone, Copy)]
-pub enum Named {
-    Is(Command),
-    Unknown,
-}
-
-// Whether a and b hold the same bytes.
-pub fn is_same(a: &[u8], b: &[u8]) -> bool
-    ensures { result ≡ same a.now b.now }
+// A command's name.
+#[tactic(auto, unfolding(crate::specs::Command::name_of))]
+pub fn name_of(command: Command) -> &'static [u8]
+    ensures { result.now ≡ name_of command }
 {
-    if a.len() != b.len() {
-        return false;
+    match command {
+        Command::Lnt => b"LNT",
+        Command::Snt => b"SNT",
+        Command::Lnd => b"LND",
+        Command::Snd => b"SND",
+        Command::Lnl => b"LNL",
+        Command::Snl => b"SNL",
+        Command::Lnib => b"LNIB",
+        Command::Lnob => b"LNOB",
+        Command::Snob => b"SNOB",
+        Command::Lnid => b"LNID",
+        Command::Lnod => b"LNOD",
+        Command::Snod => b"SNOD",
+        Command::Lnbb => b"LNBB",
+        Command::Snbb => b"SNBB",
+        Command::Lnbd => b"LNBD",
+        Command::Snbd => b"SNBD",
+        Command::Lna => b"LNA",
+        Command::Sna => b"SNA",
     }
-    let mut i = 0;
-    while i < a.len() {
-        if a[i] != b[i] {
-            return false;
-        }
-        i += 1;
-    }
-    true
 }
 
-// Whether a name is a given one of three letters.
-fn is_short(name: &[u8], short: [u8; 3]) -> bool
-    ensures { result ≡ same name.now short }
+// Whether a name is a given one. Compared as arrays, whose length is known: `==` of slices calls a function for names of
+// four letters, and read_name takes a third longer.
+fn is<const N: usize>(name: &[u8], word: &[u8; N]) -> bool
+    ensures { result ≡ same name.now word.now }
 {
-    is_same(name, &short)
-}
-
-// Whether a name is a given one of four letters.
-fn is_long(name: &[u8], long: [u8; 4]) -> bool
-    ensures { result ≡ same name.now long }
-{
-    is_same(name, &long)
+    name.as_array() == Some(word)
 }
 
 // The command that a name is.
 #[tactic(auto, unfolding(crate::specs::Command::command_of, crate::specs::Command::among, crate::specs::Command::name_of))]
-fn command_of(name: &[u8]) -> Named
+fn command_of(name: &[u8]) -> Option<Command>
     ensures { result ≡ command_of name.now }
 {
-    if is_short(name, LNT) {
-        return Named::Is(Command::Lnt);
+    if is(name, b"LNT") {
+        return Some(Command::Lnt);
     }
-    if is_short(name, SNT) {
-        return Named::Is(Command::Snt);
+    if is(name, b"SNT") {
+        return Some(Command::Snt);
     }
-    if is_short(name, LND) {
-        return Named::Is(Command::Lnd);
+    if is(name, b"LND") {
+        return Some(Command::Lnd);
     }
-    if is_short(name, SND) {
-        return Named::Is(Command::Snd);
+    if is(name, b"SND") {
+        return Some(Command::Snd);
     }
-    if is_short(name, LNL) {
-        return Named::Is(Command::Lnl);
+    if is(name, b"LNL") {
+        return Some(Command::Lnl);
     }
-    if is_short(name, SNL) {
-        return Named::Is(Command::Snl);
+    if is(name, b"SNL") {
+        return Some(Command::Snl);
     }
-    if is_long(name, LNIB) {
-        return Named::Is(Command::Lnib);
+    if is(name, b"LNIB") {
+        return Some(Command::Lnib);
     }
-    if is_long(name, LNOB) {
-        return Named::Is(Command::Lnob);
+    if is(name, b"LNOB") {
+        return Some(Command::Lnob);
     }
-    if is_long(name, SNOB) {
-        return Named::Is(Command::Snob);
+    if is(name, b"SNOB") {
+        return Some(Command::Snob);
     }
-    if is_long(name, LNID) {
-        return Named::Is(Command::Lnid);
+    if is(name, b"LNID") {
+        return Some(Command::Lnid);
     }
-    if is_long(name, LNOD) {
-        return Named::Is(Command::Lnod);
+    if is(name, b"LNOD") {
+        return Some(Command::Lnod);
     }
-    if is_long(name, SNOD) {
-        return Named::Is(Command::Snod);
+    if is(name, b"SNOD") {
+        return Some(Command::Snod);
     }
-    if is_long(name, LNBB) {
-        return Named::Is(Command::Lnbb);
+    if is(name, b"LNBB") {
+        return Some(Command::Lnbb);
     }
-    if is_long(name, SNBB) {
-        return Named::Is(Command::Snbb);
+    if is(name, b"SNBB") {
+        return Some(Command::Snbb);
     }
-    if is_long(name, LNBD) {
-        return Named::Is(Command::Lnbd);
+    if is(name, b"LNBD") {
+        return Some(Command::Lnbd);
     }
-    if is_long(name, SNBD) {
-        return Named::Is(Command::Snbd);
+    if is(name, b"SNBD") {
+        return Some(Command::Snbd);
     }
-    if is_short(name, LNA) {
-        return Named::Is(Command::Lna);
+    if is(name, b"LNA") {
+        return Some(Command::Lna);
     }
-    if is_short(name, SNA) {
-        return Named::Is(Command::Sna);
+    if is(name, b"SNA") {
+        return Some(Command::Sna);
     }
-    Named::Unknown
+    None
 }
 
-// What the name at the front of a body is, and where it ends. The end of an unknown one is not looked for.
-#[derive(Clone, Copy)]
-pub struct NameField {
-    pub name: Named,
-    pub end: usize,
-}
-
-// Where a name of three or four letters ends; 0 where neither ends at SP or at the end of s.
-fn name_end(s: &[u8]) -> usize
-    ensures { result ≡ name_end s.now }
+// Where a name of three or four letters ends, at SP or at the end of s.
+fn name_end(s: &[u8]) -> Option<usize>
+    ensures value { unwrap_or result 0 ≡ name_end s.now }
+    ensures upper_bound { IfSome result (λ n. n ≤ length s.now) }
 {
     if s.len() < 3 {
-        return 0;
+        return None;
     }
-    if is_end(s, 3) {
-        return 3;
+    if is_end(At { text: s, index: 3 }) {
+        return Some(3);
     }
-    if is_end(s, 4) {
-        return 4;
+    if is_end(At { text: s, index: 4 }) {
+        return Some(4);
     }
-    0
+    None
 }
 
-// Reads the name at the front of a body, in its place.
-pub fn read_name(s: &[u8]) -> NameField
-    ensures name_value { result.name ≡ command_of (field_at s.now 0) }
-    ensures end_value { (k : Command) → result.name ≡ Is k → result.end ≡ end_at s.now 0 }
-    ensures end_in_bounds { result.end ≤ length s.now }
+// Reads the name at the front of a body, in its place, and where it ends; None where it is no command's.
+pub fn read_name(s: &[u8]) -> Option<Field<Command>>
+    ensures name_value { result ≡ field_with command_of s.now 0 }
+    ensures end_in_bounds { IfSome result (λ f. f.end ≤ length s.now) }
 {
-    let end = name_end(s);
-    NameField {
-        name: command_of(&s[..end]),
-        end,
-    }
-}
-
-// Writes a name of three letters.
-fn put_short(area: &mut [u8], to: Cursor, short: [u8; 3]) -> Cursor
-    requires { to.at + 3 ≤ length area.old }
-    ensures { Put area.old to short result area.new }
-{
-    put_bytes(area, to, &short)
-}
-
-// Writes a name of four letters.
-fn put_long(area: &mut [u8], to: Cursor, long: [u8; 4]) -> Cursor
-    requires { to.at + 4 ≤ length area.old }
-    ensures { Put area.old to long result area.new }
-{
-    put_bytes(area, to, &long)
+    let end = name_end(s)?;
+    let value = command_of(&s[..end])?;
+    Some(Field { value, end })
 }
 
 // Writes a command's name.
@@ -226,24 +183,5 @@ pub fn put_name(area: &mut [u8], to: Cursor, command: Command) -> Cursor
     requires { to.at + length (name_of command) ≤ length area.old }
     ensures { Put area.old to (name_of command) result area.new }
 {
-    match command {
-        Command::Lnt => put_short(area, to, LNT),
-        Command::Snt => put_short(area, to, SNT),
-        Command::Lnd => put_short(area, to, LND),
-        Command::Snd => put_short(area, to, SND),
-        Command::Lnl => put_short(area, to, LNL),
-        Command::Snl => put_short(area, to, SNL),
-        Command::Lnib => put_long(area, to, LNIB),
-        Command::Lnob => put_long(area, to, LNOB),
-        Command::Snob => put_long(area, to, SNOB),
-        Command::Lnid => put_long(area, to, LNID),
-        Command::Lnod => put_long(area, to, LNOD),
-        Command::Snod => put_long(area, to, SNOD),
-        Command::Lnbb => put_long(area, to, LNBB),
-        Command::Snbb => put_long(area, to, SNBB),
-        Command::Lnbd => put_long(area, to, LNBD),
-        Command::Snbd => put_long(area, to, SNBD),
-        Command::Lna => put_short(area, to, LNA),
-        Command::Sna => put_short(area, to, SNA),
-    }
+    put_bytes(area, to, name_of(command))
 }

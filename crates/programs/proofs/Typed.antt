@@ -6,25 +6,16 @@ use mathlib.Core.List.{List, [], ◌∷◌, map}
 use native.Mathlib.Omega.{arith}
 use borrow.Author.Tests.{eqb-true, eqb-false}
 use lib.Dec.{eqb}
-use lib.ListN.{get_or, drop}
+use lib.ListN.{drop}
 use Rattle.frame.proofs.Spaced.{Each}
 use Rattle.steps.specs.declared.step.Step.{Step}
 use Rattle.steps.specs.Text.{chars_of, is_text, all_chars, pack}
 use Rattle.steps.specs.Step.{packed, step_from, up_to, texts_of, typed_of, are_data, is_step}
 use Rattle.steps.proofs.Laws.{chars_stop, text_some, pack_none, up_none, up_stop, up_more}
 use Rattle.steps.proofs.Back.{pack_some, told, pack_chars, only_pack, Data, data_are, datum_text, sound}
-use Rattle.programs.specs.declared.memory.Found.TheVariants.{Of, Empty}
+use Rattle.std.specs.Prelude.{None, Some}
 use Rattle.programs.specs.Memory.{place, chars_at, filled, step_at, found, packed_at, ended_of}
 use Rattle.programs.proofs.Laws.{chars_at_short, chars_at_all}
-
--- the last number is there either way
-pub up_last : (n : ℕ) → get_or (up_to (n ∷ [])) 0 0 ≡ n
-unfolding up_to
-up_last n = go (eqb n 0) refl
-  where
-    go : (t : Bool) → eqb n 0 ≡ t → get_or (cond t [] (n ∷ [])) 0 0 ≡ n
-    go true e = sym (eqb-true n 0 e)
-    go false e = refl
 
 -- ---- texts that stand in the memory, packed
 
@@ -54,26 +45,26 @@ step_packed m slot n =
 
 -- ---- what is found
 
-found_empty : (ts : List (List ℕ)) → map pack ts ≡ [] → found ts ≡ Empty
+found_empty : (ts : List (List ℕ)) → map pack ts ≡ [] → found ts ≡ None
 found_empty [] e = refl
 found_empty (t ∷ ts) e = let z : ◌≡◌ {A = ℕ} 0 1 = cc in absurd (omega arith)
 
-found_of : (ts : List (List ℕ)) (n : ℕ) (ns : List ℕ) → map pack ts ≡ n ∷ ns → found ts ≡ Of (step_from (n ∷ ns))
+found_of : (ts : List (List ℕ)) (n : ℕ) (ns : List ℕ) → map pack ts ≡ n ∷ ns → found ts ≡ Some (step_from (n ∷ ns))
 unfolding typed_of
 found_of [] n ns e = let z : ◌≡◌ {A = ℕ} 0 1 = cc in absurd (omega arith)
-found_of (t ∷ ts) n ns e = ap (λ (l : List ℕ). Of (step_from l)) e
+found_of (t ∷ ts) n ns e = ap (λ (l : List ℕ). Some (step_from l)) e
 
--- found by the numbers that the code reads at p
-module _ (m : List ℕ) (slot n p t : ℕ) (here : p ≡ place slot n) (command : t ≡ packed_at m p) where
-  pub load_empty : t ≡ 0 → found (step_at m slot n) ≡ Empty
-  load_empty z = found_empty (step_at m slot n) (step_packed m slot n ∙ up_stop _ _ (rw (← here, ← command) z))
+-- found by the numbers that stand there
+module _ (m : List ℕ) (slot n : ℕ) where
+  pub load_empty : packed_at m (place slot n) ≡ 0 → found (step_at m slot n) ≡ None
+  load_empty z = found_empty (step_at m slot n) (step_packed m slot n ∙ up_stop _ _ z)
 
-  pub load_found : (a b c d : ℕ) → (t ≡ 0 → ⊥) → a ≡ packed_at m (p + 8) → b ≡ packed_at m (p + 16) → c ≡ packed_at m (p + 24) → d ≡ packed_at m (p + 32) → (s : Step) → s ≡ ended_of t a b c d → found (step_at m slot n) ≡ Of s
+  pub load_found :
+      let p : ℕ = place slot n in
+      (packed_at m p ≡ 0 → ⊥) →
+      found (step_at m slot n) ≡ Some (ended_of (packed_at m p) (packed_at m (p + 8)) (packed_at m (p + 16)) (packed_at m (p + 24)) (packed_at m (p + 32)))
   unfolding ended_of
-  load_found a b c d z first second third fourth s e =
-      rw e
-      (found_of (step_at m slot n) t (up_to (a ∷ b ∷ c ∷ d ∷ []))
-      (step_packed m slot n ∙ rw (← here, ← command, ← first, ← second, ← third, ← fourth) (up_more t (a ∷ b ∷ c ∷ d ∷ []) z)))
+  load_found z = found_of (step_at m slot n) _ _ (step_packed m slot n ∙ up_more _ _ z)
 
 -- ---- the texts of a step
 

@@ -1,11 +1,9 @@
 -- The lent memory (document 02, E3; docs/MEMORY.md): where each text stands, and what its bytes mean.
-use Rattle.std.specs.Prelude.{ℕ, zero, suc, ◌+◌, ◌*◌, ◌/◌, ◌%◌, cond, List, [], ◌∷◌, ◌++◌, get_or, take, drop}
+use Rattle.std.specs.Prelude.{ℕ, zero, suc, ◌+◌, ◌*◌, ◌/◌, ◌%◌, cond, List, [], ◌∷◌, ◌++◌, get_or, take, drop, Option, None, Some}
 use Rattle.std.proofs.lemmas.List.Edits.{sets}
 use Rattle.steps.specs.declared.step.Step.{Step}
 use Rattle.steps.specs.Text.{is_char, pack}
 use Rattle.steps.specs.Step.{step_from, up_to, typed_of}
-use Rattle.programs.specs.declared.memory.Found.{Found}
-use Rattle.programs.specs.declared.memory.Found.TheVariants.{Of, Empty}
 
 -- 10,240 bytes for each of the four slots
 abbrev pub size : ℕ
@@ -61,9 +59,9 @@ unfoldable pub step_at : List ℕ → ℕ → ℕ → List (List ℕ)
 step_at m slot n = filled (texts_at m (place slot n))
 
 -- those texts as a typed step
-abbrev pub found : List (List ℕ) → Found
-found [] = Empty
-found (t ∷ ts) = Of (typed_of (t ∷ ts))
+abbrev pub found : List (List ℕ) → Option Step
+found [] = None
+found (t ∷ ts) = Some (typed_of (t ∷ ts))
 
 -- k steps of a slot from n on
 unfoldable pub steps_from : ℕ → List ℕ → ℕ → ℕ → List (List (List ℕ))

@@ -2,4 +2,5 @@
 // loaded, and the memory cleared. Only the 40 bytes of the step are touched.
 #![tactic(auto)]
 
+pub mod slot; // slot.rt: the number of a slot
 pub mod memory; // memory.rt: one step, and the whole memory

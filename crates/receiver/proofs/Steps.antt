@@ -11,9 +11,9 @@ use lib.ListN.{length, get_or, take, drop, set}
 use lib.Seq.{length-take-le, take-suc-set, get_or-take, sets}
 use Rattle.text.specs.Put.{PutAt}
 use Rattle.text.proofs.Laws.{here, over}
-use Rattle.receiver.specs.declared.receive.Step.{Step}
-use Rattle.receiver.specs.Rule.{dropped, begun, added, finished, ended, effect, held_after, ends}
-use Rattle.receiver.specs.Receive.{standing, held_in, Taken, one_more, taken, took, received, Received, Stepped}
+use Rattle.receiver.specs.declared.receive.Step.TheVariants.{Finished, Held}
+use Rattle.receiver.specs.Rule.{dropped, begun, added, finished, ended, effect, ends}
+use Rattle.receiver.specs.Receive.{standing, held_in, Taken, one_more, taken, took, no_room, received, Received, Stepped}
 
 -- ---- what a byte is
 
@@ -54,54 +54,18 @@ module _ (m : List ℕ) (n : ℕ) (h : n < 255) (k : length m ≡ 255) where
   unfolding ended
   ended_some e = rw (long, get_or-take n m (n - 1) 0 (omega arith))
 
-  module _ (b : ℕ) where
-    grown : take (n + 1) (set m n b) ≡ take n m ++ (b ∷ [])
-    grown = rw (add-one, take-suc-set m n b (omega arith))
+  pub grown : (b : ℕ) → take (n + 1) (set m n b) ≡ take n m ++ (b ∷ [])
+  grown b = rw (add-one, take-suc-set m n b (omega arith))
 
-    pub step_finished : ended (take n m) ≡ true → Stepped m n b (record { done = true; count = n + 1 }) (set m n b)
-    step_finished e =
-        let f : effect (take n m) b ≡ finished = is_finished (take n m) b e in
-        record {
-          done_is = rw f;
-          memory_is = rw (f, long);
-          bytes_are = grown;
-          fits = omega arith;
-          held_fits = omega arith;
-        }
+-- STX stands alone at the front
+pub alone : (m : List ℕ) (b : ℕ) → 0 < length m → take 1 (set m 0 b) ≡ b ∷ []
+alone m b h = take-suc-set m 0 b h
 
-    module _ (e : ended (take n m) ≡ false) where
-      pub step_begun : b ≡ 2 → Stepped m n b (record { done = false; count = 1 }) (set m 0 2)
-      step_begun p =
-          let f : effect (take n m) b ≡ begun = is_begun (take n m) b e p in
-          record {
-            done_is = rw f;
-            memory_is = rw (f, p);
-            bytes_are = rw (f, p) (take-suc-set m 0 2 (omega arith));
-            fits = omega arith;
-            held_fits = omega arith;
-          }
+-- for `at_end`
+pub ruleset ends_with = (ended_none, ended_some)
 
-      -- nothing is held then
-      emptied : effect (take n m) b ≡ dropped → Stepped m n b (record { done = false; count = 0 }) m
-      emptied f = record { done_is = rw f; memory_is = rw f; bytes_are = rw f; fits = omega arith; held_fits = omega arith }
-
-      module _ (p : b ≡ 2 → ⊥) where
-        pub step_noise : n ≡ 0 → Stepped m n b (record { done = false; count = 0 }) m
-        step_noise q = emptied (is_noise (take n m) b e p (long ∙ q))
-
-        pub step_added : (n ≡ 0 → ⊥) → n < 254 → Stepped m n b (record { done = false; count = n + 1 }) (set m n b)
-        step_added q l =
-            let f : effect (take n m) b ≡ added = is_added (take n m) b e p (λ z. q (sym long ∙ z)) (omega (arith, long)) in
-            record {
-              done_is = rw f;
-              memory_is = rw (f, long);
-              bytes_are = rw f grown;
-              fits = omega arith;
-              held_fits = omega arith;
-            }
-
-        pub step_dropped : (n ≡ 0 → ⊥) → 254 ≤ n → Stepped m n b (record { done = false; count = 0 }) m
-        step_dropped q l = emptied (is_dropped (take n m) b e p (λ z. q (sym long ∙ z)) (omega (arith, long)))
+-- for `take_byte`
+pub ruleset steps = (is_finished, is_begun, is_noise, is_added, is_dropped, long, grown, alone)
 
 -- ---- a call: t is what it takes in all, of which i bytes were taken and u is left
 
@@ -124,23 +88,21 @@ same {i = i} g e = record {
 }
 
 module _ {t : Taken} (m s : List ℕ) (n i : ℕ) (g : Going t i (taken m (take n m) (drop i s))) where
-  module _ {r : Step} {m' : List ℕ} (h : i < length s) (x : Stepped m n (get_or s i 0) r m') where
-    pub go_on : r.done ≡ false → Going t (i + 1) (taken m' (take r.count m') (drop (i + 1) s))
+  module _ (h : i < length s) (c : ℕ) {m' : List ℕ} where
+    pub go_on : Stepped m n (get_or s i 0) (Held c) m' → Going t (i + 1) (taken m' (take c m') (drop (i + 1) s))
     unfolding taken
-    go_on d =
-        let p : ends (effect (take n m) (get_or s i 0)) ≡ false = sym x.done_is ∙ d in
-        let q : take r.count m' ≡ held_after (effect (take n m) (get_or s i 0)) (take n m) (get_or s i 0) = rw d at x.bytes_are in
-        let u : taken m (take n m) (drop i s) ≡ one_more (taken m' (take r.count m') (drop (i + 1) s)) =
-        rw (here s i h, p) (ap₂ (λ (a l : List ℕ). one_more (taken a l (drop (i + 1) s))) (sym x.memory_is) (sym q)) in
+    go_on x =
+        let p : ends (effect (take n m) (get_or s i 0)) ≡ false = sym x.done_is in
+        let u : taken m (take n m) (drop i s) ≡ one_more (taken m' (take c m') (drop (i + 1) s)) =
+        rw (here s i h, p) (ap₂ (λ (a l : List ℕ). one_more (taken a l (drop (i + 1) s))) (sym x.memory_is) (sym x.bytes_are)) in
         let v = same g u in
         record { taken = omega (arith, v.taken); slice = v.slice; held = v.held; memory = v.memory }
 
-    pub stop : r.done ≡ true → Going t i (record { taken = 1; slice = take r.count m'; held = []; memory = m' })
+    pub stop : Stepped m n (get_or s i 0) (Finished c) m' → Going t i (record { taken = 1; slice = take c m'; held = []; memory = m' })
     unfolding taken
-    stop d =
-        let p : ends (effect (take n m) (get_or s i 0)) ≡ true = sym x.done_is ∙ d in
-        let q : take r.count m' ≡ take n m ++ (get_or s i 0 ∷ []) = rw d at x.bytes_are in
-        same g (rw (here s i h, p) (ap₂ (λ (a l : List ℕ). record { taken = 1; slice = l; held = []; memory = a }) (sym x.memory_is) (sym q)))
+    stop x =
+        let p : ends (effect (take n m) (get_or s i 0)) ≡ true = sym x.done_is in
+        same g (rw (here s i h, p) (ap₂ (λ (a l : List ℕ). record { taken = 1; slice = l; held = []; memory = a }) (sym x.memory_is) (sym x.bytes_are)))
 
   pub run_out : length s ≤ i → Going t i (record { taken = 0; slice = []; held = take n m; memory = m })
   unfolding taken
@@ -185,19 +147,13 @@ module _ {t : Taken} {m area : List ℕ} {i : ℕ} (k : length m ≡ 255) (l : 2
 
 -- an area that is too small, and one that is not
 module _ (m : List ℕ) (n : ℕ) (arrived area : List ℕ) where
-  pub no_room_lem : length area < 255 → Received (received m n arrived (length area)) area (record { number = 1; taken = 0; length = 0 }) m n area
+  pub without_room : length area < 255 → received m n arrived (length area) ≡ no_room m n
   unfolding received
-  no_room_lem h = rw (lt-ltb (length area) 255 h) (record {
-    number_is = refl;
-    taken_is = refl;
-    length_is = refl;
-    fits = omega arith;
-    area_is = refl;
-    count_is = refl;
-    memory_is = refl;
-    held_is = refl;
-  })
+  without_room h = rw (lt-ltb (length area) 255 h)
 
   pub with_room : 255 ≤ length area → received m n arrived (length area) ≡ took (taken m (held_in m n) arrived)
   unfolding received
   with_room h = rw (le-ltb (length area) 255 h)
+
+-- for `receive`
+pub ruleset rooms = (without_room, with_room)

@@ -1,9 +1,11 @@
 -- What a call of the receiver does (document 02, E1): bytes are taken until a slice is finished or none is left.
-use Rattle.std.specs.Prelude.{ℕ, suc, ◌≤◌, ◌≡◌, cond, List, [], ◌∷◌, ◌++◌, ltb, length, take, set}
+use Rattle.std.specs.Prelude.{ℕ, suc, ◌≤◌, ◌≡◌, Bool, true, false, cond, List, [], ◌∷◌, ◌++◌, ltb, length, take, set}
 use Rattle.std.proofs.lemmas.List.Edits.{sets}
 use Rattle.receiver.specs.Rule.{Effect, dropped, begun, added, finished, effect, held_after, ends}
+use Rattle.receiver.specs.declared.receive.Receiver.{Receiver}
 use Rattle.receiver.specs.declared.receive.Reception.{Reception}
 use Rattle.receiver.specs.declared.receive.Step.{Step}
+use Rattle.receiver.specs.declared.receive.Step.TheVariants.{Finished, Held}
 
 -- ---- the state that the caller keeps: a memory of 255 bytes and a count
 
@@ -76,12 +78,27 @@ pub record Received (o : Outcome) (before : List ℕ) (r : Reception) (m : List 
   pub memory_is : m ≡ o.all.memory
   pub held_is : held_in m n ≡ o.all.held
 
+-- both are the same state in memory, whatever it holds
+pub record SameState (a b : Receiver) : Type 0 where
+  pub held : a.held.ghost_name ≡ b.held.ghost_name
+  pub count : a.count.ghost_name ≡ b.count.ghost_name
+
 -- ---- one byte
+
+-- whether a byte finished a slice
+abbrev pub is_done : Step → Bool
+is_done (Finished n) = true
+is_done (Held n) = false
+
+-- how many bytes that slice has, or are held
+abbrev pub count_of : Step → ℕ
+count_of (Finished n) = n
+count_of (Held n) = n
 
 -- what `take_byte` returns and leaves, where the first n bytes of m are held
 pub record Stepped (m : List ℕ) (n b : ℕ) (r : Step) (m' : List ℕ) : Type 0 where
-  pub done_is : r.done ≡ ends (effect (take n m) b)
+  pub done_is : is_done r ≡ ends (effect (take n m) b)
   pub memory_is : m' ≡ stored (effect (take n m) b) m (length (take n m)) b
-  pub bytes_are : take r.count m' ≡ cond r.done (take n m ++ (b ∷ [])) (held_after (effect (take n m) b) (take n m) b)
-  pub fits : r.count ≤ 255
-  pub held_fits : cond r.done 0 r.count ≤ 254
+  pub bytes_are : take (count_of r) m' ≡ cond (is_done r) (take n m ++ (b ∷ [])) (held_after (effect (take n m) b) (take n m) b)
+  pub fits : count_of r ≤ 255
+  pub held_fits : cond (is_done r) 0 (count_of r) ≤ 254

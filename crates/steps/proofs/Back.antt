@@ -4,8 +4,8 @@ use Prim.Native.Nat.{ℕ, zero, suc, ◌-◌, ◌/◌, ◌%◌, ◌≤◌}
 use mathlib.Core.Path.{◌≡◌, refl, sym, ap, ◌∙◌}
 use mathlib.Core.Bool.{Bool, true, false, cond, ◌&&◌}
 use mathlib.Core.List.{List, [], ◌∷◌, map, map-map}
-use mathlib.Core.Option
-use mathlib.Core.Option.{Option, none, some, some-injective, none-ne-some}
+use Rattle.std.specs.Prelude.{Option, None, Some, option_map}
+use Rattle.std.proofs.lemmas.Option.{none-some, same_Some}
 use native.Mathlib.Omega.{arith}
 use borrow.Author.Tests.{leb-true, le-leb, le-ltb, eqb-true, eqb-false, eq-eqb, ne_eqb}
 use lib.Dec.{leb, eqb}
@@ -30,11 +30,11 @@ record Reads (s : List ℕ) (t : Text) : Type 0 where
   all : all_chars s ≡ true
   is : text (pack s) ≡ t
 
-reads : (s : List ℕ) (t : Text) → read_text s ≡ some t → Reads s t
+reads : (s : List ℕ) (t : Text) → read_text s ≡ Some t → Reads s t
 unfolding read_text
 reads s t e = go (leb 1 (length s)) (leb (length s) 8) (all_chars s) refl refl refl e
   where
-    go : (a b d : Bool) → leb 1 (length s) ≡ a → leb (length s) 8 ≡ b → all_chars s ≡ d → cond (a && b) (cond d (some (text (pack s))) none) none ≡ some t → Reads s t
+    go : (a b d : Bool) → leb 1 (length s) ≡ a → leb (length s) 8 ≡ b → all_chars s ≡ d → cond (a && b) (cond d (Some (text (pack s))) None) None ≡ Some t → Reads s t
     go true true true p q r e = record { filled = leb-true _ _ p; short = leb-true _ _ q; all = r; is = cc }
     go true true false p q r e = let z : ◌≡◌ {A = ℕ} 0 1 = cc in absurd (omega arith)
     go true false d p q r e = let z : ◌≡◌ {A = ℕ} 0 1 = cc in absurd (omega arith)
@@ -138,7 +138,7 @@ pub text_reads_back : TextReadsBack
 text_reads_back n e =
     let t = told n e in
     let p = pack_chars 8 n t.only in
-    read_good (chars_in 8 n) (chars_some (chars_in 8 n) n p t.some) (chars_short 8 n) (chars_all 8 n) ∙ ap (λ (m : ℕ). some (text m)) p
+    read_good (chars_in 8 n) (chars_some (chars_in 8 n) n p t.some) (chars_short 8 n) (chars_all 8 n) ∙ ap (λ (m : ℕ). Some (text m)) p
 
 -- ---- characters that a search passes over
 
@@ -311,15 +311,15 @@ pub typed : (ns : List ℕ) → map (λ t. t.0) (map text ns) ≡ ns
 typed [] = refl
 typed (n ∷ ns) = ap (λ ms. n ∷ ms) (typed ns)
 
-each_back : (ns : List ℕ) → Each (λ n. is_text n ≡ true) ns → Each (λ t. read_text (chars_of t.0) ≡ some t) (map text ns)
+each_back : (ns : List ℕ) → Each (λ n. is_text n ≡ true) ns → Each (λ t. read_text (chars_of t.0) ≡ Some t) (map text ns)
 each_back [] a = tt
 each_back (n ∷ ns) a = (text_reads_back n a.0, each_back ns a.1)
 
-texts_read : (ns : List ℕ) → Each (λ n. is_text n ≡ true) ns → read_fields read_text (length ns) (map chars_of ns) ≡ some (map text ns)
+texts_read : (ns : List ℕ) → Each (λ n. is_text n ≡ true) ns → read_fields read_text (length ns) (map chars_of ns) ≡ Some (map text ns)
 texts_read ns a =
     rw (length-map ns text, map-map (λ t. chars_of t.0) text ns) at (fields_back read_text (λ t. chars_of t.0) (map text ns) (each_back ns a))
 
-numbers_read : (ns : List ℕ) → 1 ≤ length ns → length ns ≤ 5 → Each (λ n. is_text n ≡ true) ns → read_step (map chars_of ns) ≡ some (step_from ns)
+numbers_read : (ns : List ℕ) → 1 ≤ length ns → length ns ≤ 5 → Each (λ n. is_text n ≡ true) ns → read_step (map chars_of ns) ≡ Some (step_from ns)
 unfolding read_step
 numbers_read ns l h a = rw (length-map ns chars_of, le-leb 1 (length ns) l, le-leb (length ns) 5 h, texts_read ns a, typed ns)
 
@@ -327,7 +327,7 @@ pub step_reads_back : StepReadsBack
 unfolding numbers
 step_reads_back s e =
     rw (step_fields s, texts_are s)
-    (numbers_read (numbers s) (omega arith) (numbers_few s) (numbers_texts s e) ∙ ap some (step_from_lem s e))
+    (numbers_read (numbers s) (omega arith) (numbers_few s) (numbers_texts s e) ∙ ap Some (step_from_lem s e))
 
 -- ---- what is read
 
@@ -357,12 +357,12 @@ read_is_step fs s e = go (leb 1 (length fs)) (leb (length fs) 5) (read_fields re
         (a b : Bool) (o : Option (List Text)) →
         leb 1 (length fs) ≡ a →
         read_fields read_text (length fs) fs ≡ o →
-        cond (a && b) (Option.map (λ ts. step_from (map (λ t. t.0) ts)) o) none ≡ some s →
+        cond (a && b) (option_map (λ ts. step_from (map (λ t. t.0) ts)) o) None ≡ Some s →
         is_step s ≡ true
-    go true true (some ts) p q e =
+    go true true (Some ts) p q e =
         let r = fields_each (λ t. is_text t.0 ≡ true) read_text read_is_text (length fs) fs ts q in
-        rw (← some-injective (step_from (map (λ t. t.0) ts)) s e)
+        rw (← same_Some (step_from (map (λ t. t.0) ts)) s e)
         (step_texts ts (omega (arith, r.1, leb-true 1 (length fs) p)) r.0)
-    go true true none p q e = absurd (none-ne-some s e)
-    go true false o p q e = absurd (none-ne-some s e)
-    go false b o p q e = absurd (none-ne-some s e)
+    go true true None p q e = absurd (none-some s e)
+    go true false o p q e = absurd (none-some s e)
+    go false b o p q e = absurd (none-some s e)

@@ -1,27 +1,20 @@
 -- Laws of characters: one step of each loop over them, what a packed list is.
 use Prim.Native.Nat.{ℕ, zero, suc, ◌+◌, ◌-◌, ◌*◌, ◌/◌, ◌%◌, ◌^◌, ◌≤◌, ◌<◌}
-use mathlib.Core.Path.{◌≡◌, refl, sym, ◌∙◌}
+use mathlib.Core.Path.{◌≡◌, refl, sym, ap, ◌∙◌}
 use mathlib.Core.Bool.{Bool, true, false, cond, ◌&&◌}
-use mathlib.Core.List.{List, [], ◌∷◌}
-use mathlib.Core.Option.{none, some}
+use mathlib.Core.List.{List, [], ◌∷◌, ◌++◌, append-nil, append_assoc}
+use Rattle.std.specs.Prelude.{None, Some}
 use native.Mathlib.Omega.{arith}
-use native.Mathlib.Nat.{pow-suc}
-use borrow.Author.Tests.{le-leb, lt-leb, leb-true, eq-eqb, ne_eqb}
+use native.Mathlib.Nat.{pow-zero, pow-suc, div-one, div-div-eq-div-mul}
+use borrow.Author.Tests.{le-leb, leb-true, eq-eqb, ne_eqb}
 use lib.Dec.{leb, eqb}
-use lib.ListN.{length, get_or}
-use Rattle.steps.specs.Text.{is_char, chars_in, only_chars, is_text, all_chars, pack, read_text, text}
+use lib.ListN.{length, get_or, drop, length-append}
+use Rattle.std.specs.Int.{w64, byte_at, bytes_low_first, to_le_bytes}
+use Rattle.text.proofs.Laws.{here, over}
+use Rattle.steps.specs.Text.{is_char, chars_in, chars_of, only_chars, is_text, all_chars, pack, read_text, text}
 use Rattle.steps.specs.Step.{up_to}
 
 -- ---- a character or not
-
-pub char : (b : ℕ) → 33 ≤ b → b ≤ 126 → is_char b ≡ true
-char b l h = rw (le-leb 33 b l, le-leb b 126 h)
-
-pub low : (b : ℕ) → b < 33 → is_char b ≡ false
-low b h = rw (lt-leb 33 b h)
-
-pub high : (b : ℕ) → 126 < b → is_char b ≡ false
-high b h = rw (le-leb 33 b (omega arith), lt-leb b 126 h)
 
 pub char_low : (b : ℕ) → is_char b ≡ true → 33 ≤ b
 char_low b e = go (leb 33 b) refl e
@@ -40,10 +33,6 @@ char_high b e = go (leb 33 b) (leb b 126) refl e
 
 -- ---- the characters of a number
 
-pub chars_none : (n : ℕ) → chars_in 0 n ≡ []
-unfolding chars_in
-chars_none n = refl
-
 pub chars_stop : (k n : ℕ) → is_char (n % 256) ≡ false → chars_in k n ≡ []
 unfolding chars_in
 chars_stop zero n e = refl
@@ -53,6 +42,41 @@ pub chars_more : (k n : ℕ) → 0 < k → is_char (n % 256) ≡ true → chars_
 unfolding chars_in
 chars_more zero n h e = absurd (omega arith)
 chars_more (suc k) n h e = let z : suc k - 1 ≡ k = omega arith in rw (e, z)
+
+-- the characters before the first byte that is none
+unfoldable pub leading : List ℕ → List ℕ
+leading [] = []
+leading (b ∷ bs) = cond (is_char b) (b ∷ leading bs) []
+
+module _ (s : List ℕ) (i : ℕ) where
+  pub leading_none : length s ≤ i → leading (drop i s) ≡ []
+  unfolding leading
+  leading_none h = rw (over s i h)
+
+  pub leading_stop : i < length s → is_char (get_or s i 0) ≡ false → leading (drop i s) ≡ []
+  unfolding leading
+  leading_stop h e = rw (here s i h, e)
+
+  pub leading_more : i < length s → is_char (get_or s i 0) ≡ true → leading (drop i s) ≡ (get_or s i 0 ∷ []) ++ leading (drop (i + 1) s)
+  unfolding leading
+  leading_more h e = rw (here s i h, e)
+
+-- a byte of a number, and what stands above it
+pub byte_is : (i n : ℕ) → byte_at i n ≡ n / 256 ^ i % 256
+byte_is zero n = rw (pow-zero 256, div-one n)
+byte_is (suc i) n = refl
+
+pub above : (i n : ℕ) → n / 256 ^ suc i ≡ n / 256 ^ i / 256
+above i n = rw (pow-suc 256 i) (sym (div-div-eq-div-mul n (256 ^ i) 256))
+
+leading_bytes : (k i n : ℕ) → leading (bytes_low_first i k n) ≡ chars_in k (n / 256 ^ i)
+unfolding leading chars_in
+leading_bytes zero i n = refl
+leading_bytes (suc k) i n = rw (byte_is i n, leading_bytes k (suc i) n, above i n)
+
+-- the characters of a typed text are those at the front of its bytes, lowest first
+pub leading_le : (n : ℕ) → leading (to_le_bytes w64 n) ≡ chars_of n
+leading_le n = leading_bytes 8 0 n ∙ rw (pow-zero 256, div-one n)
 
 pub only_none : (n : ℕ) → only_chars 0 n ≡ eqb n 0
 unfolding only_chars
@@ -100,11 +124,10 @@ unfolding all_chars
 all_cons b bs e = rw e
 
 -- one that is no character
-pub all_stop : (s : List ℕ) (i : ℕ) → i < length s → is_char (get_or s i 0) ≡ false → all_chars s ≡ false
+all_stop : (s : List ℕ) (b : ℕ) (bs : List ℕ) → is_char b ≡ false → all_chars (s ++ (b ∷ bs)) ≡ false
 unfolding all_chars
-all_stop [] i h e = absurd (omega arith)
-all_stop (b ∷ bs) zero h e = rw e
-all_stop (b ∷ bs) (suc i) h e = rw (all_stop bs i (omega arith) e) (either (is_char b))
+all_stop [] b bs e = rw e
+all_stop (c ∷ s) b bs e = rw (all_stop s b bs e) (either (is_char c))
   where
     either : (t : Bool) → cond t false false ≡ false
     either true = refl
@@ -130,21 +153,50 @@ pack_small (suc k) [] h e = omega (arith, pow-suc 256 k, pack_small k [] (omega 
 pack_small (suc k) (b ∷ bs) h e =
     omega (arith, pow-suc 256 k, pack_small k bs (omega arith) (all_rest b bs e), char_high b (all_first b bs e))
 
+-- ---- a list that is packed from its last byte on
+
+-- the bytes behind `rest` are characters, and n is these, packed
+pub record Packed (s rest : List ℕ) (n : ℕ) : Type 0 where
+  pub behind : List ℕ
+  pub whole : s ≡ rest ++ behind
+  pub packs : n ≡ pack behind
+  pub chars : all_chars behind ≡ true
+
+pub packed_none : (s rest : List ℕ) → s ≡ rest → Packed s rest 0
+packed_none s rest e = record { behind = []; whole = e ∙ sym (append-nil rest); packs = sym pack_none; chars = all_none }
+
+pub packed_all : {s rest : List ℕ} {n : ℕ} → Packed s rest n → length rest ≡ 0 → (n ≡ pack s) × (all_chars s ≡ true)
+packed_all {rest = []} p z = (rw p.whole p.packs, rw p.whole p.chars)
+packed_all {rest = b ∷ bs} p z = absurd (omega arith)
+
+-- the next byte
+module _ {s rest : List ℕ} {n : ℕ} (p : Packed s rest n) (front : List ℕ) (b : ℕ) (e : rest ≡ front ++ (b ∷ [])) where
+  next : s ≡ front ++ (b ∷ p.behind)
+  next = p.whole ∙ rw e (append_assoc front (b ∷ []) p.behind)
+
+  pub packed_bad : is_char b ≡ false → all_chars s ≡ false
+  packed_bad f = rw next (all_stop front b p.behind f)
+
+  pub packed_more : is_char b ≡ true → Packed s front (n * 256 + b)
+  packed_more t = record {
+    behind = b ∷ p.behind;
+    whole = next;
+    packs = rw p.packs (sym (pack_cons b p.behind));
+    chars = all_cons b p.behind t ∙ p.chars;
+  }
+
+  pub packed_small : length s ≤ 8 → n < 256 ^ 7
+  packed_small h =
+      let l : length p.behind ≤ 7 = omega (arith, ap length next, length-append front (b ∷ p.behind)) in
+      rw p.packs (pack_small 7 p.behind l p.chars)
+
 -- ---- a field as a text
 
-pub read_short : (s : List ℕ) → length s < 1 → read_text s ≡ none
-unfolding read_text
-read_short s h = rw (lt-leb 1 (length s) h)
-
-pub read_long : (s : List ℕ) → 8 < length s → read_text s ≡ none
-unfolding read_text
-read_long s h = rw (le-leb 1 (length s) (omega arith), lt-leb (length s) 8 h)
-
-pub read_bad : (s : List ℕ) → 1 ≤ length s → length s ≤ 8 → all_chars s ≡ false → read_text s ≡ none
+pub read_bad : (s : List ℕ) → 1 ≤ length s → length s ≤ 8 → all_chars s ≡ false → read_text s ≡ None
 unfolding read_text
 read_bad s a b e = rw (le-leb 1 (length s) a, le-leb (length s) 8 b, e)
 
-pub read_good : (s : List ℕ) → 1 ≤ length s → length s ≤ 8 → all_chars s ≡ true → read_text s ≡ some (text (pack s))
+pub read_good : (s : List ℕ) → 1 ≤ length s → length s ≤ 8 → all_chars s ≡ true → read_text s ≡ Some (text (pack s))
 unfolding read_text
 read_good s a b e = rw (le-leb 1 (length s) a, le-leb (length s) 8 b, e)
 

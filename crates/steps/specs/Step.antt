@@ -1,12 +1,8 @@
 -- Steps (document 02, E3): a command and up to four data without a gap, each a text.
-use Rattle.std.specs.Prelude.{ℕ, Bool, true, false, cond, ◌&&◌, List, [], ◌∷◌, map, leb, eqb, length, get_or, drop, replicate}
-use Rattle.std.proofs.Math.Option
-use Rattle.std.proofs.Math.Option.{Option, none}
-use Rattle.text.specs.Read.{Read, value, wrong, read_at}
+use Rattle.std.specs.Prelude.{ℕ, Bool, true, false, cond, ◌&&◌, List, [], ◌∷◌, map, leb, eqb, length, get_or, drop, replicate, Option, None, option_map}
+use Rattle.text.specs.Read.{Read, read_at}
 use Rattle.frame.specs.Fields.{fields, placed, read_fields, reads_as, spaced, offending}
 use Rattle.steps.specs.declared.step.Step.{Step}
-use Rattle.steps.specs.declared.step.StepRead.{StepRead}
-use Rattle.steps.specs.declared.step.StepRead.TheVariants.{Of, Malformed}
 use Rattle.steps.specs.Text.{chars_of, is_text, pack, text, read_text}
 
 -- the texts of a step, packed: the command, then the data
@@ -53,7 +49,7 @@ is_step s = cond (is_text s.command.0) (are_data (drop 1 (packed s))) false
 unfoldable pub read_step : List (List ℕ) → Option Step
 read_step fs =
     cond (leb 1 (length fs) && leb (length fs) 5)
-    (Option.map (λ ts. step_from (map (λ t. t.0) ts)) (read_fields read_text (length fs) fs)) none
+    (option_map (λ ts. step_from (map (λ t. t.0) ts)) (read_fields read_text (length fs) fs)) None
 
 -- a test for each field that a step can have: that it is in its form
 abbrev pub step_forms : List (List ℕ → Bool)
@@ -62,11 +58,6 @@ step_forms = replicate 5 (λ f. reads_as (λ t. true) (read_text f))
 -- the step that stands at an index of a text, which ETX follows
 abbrev pub step_in : List ℕ → ℕ → Read Step
 step_in s i = read_at (offending (length s) step_forms (placed i (drop i s))) (read_step (fields (drop i s)))
-
--- what the reader's answer says
-abbrev pub step_answer : StepRead → Read Step
-step_answer (Of s) = value s
-step_answer (Malformed p) = wrong p
 
 -- ---- writing
 

@@ -1,10 +1,6 @@
 -- Texts (document 02, E3): 1 to 8 characters from 21h to 7Eh, packed into a number with the first in the lowest byte.
-use Rattle.std.specs.Prelude.{ℕ, zero, suc, ◌+◌, ◌*◌, ◌/◌, ◌%◌, Bool, true, false, cond, ◌&&◌, List, [], ◌∷◌, leb, eqb, length}
-use Rattle.std.proofs.Math.Option.{Option, none, some}
+use Rattle.std.specs.Prelude.{ℕ, zero, suc, ◌+◌, ◌*◌, ◌/◌, ◌%◌, Bool, true, false, cond, ◌&&◌, List, [], ◌∷◌, leb, eqb, length, Option, None, Some}
 use Rattle.steps.specs.declared.texts.Text.{Text}
-use Rattle.text.specs.Read.{Read, value, wrong}
-use Rattle.steps.specs.declared.texts.TextRead.{TextRead}
-use Rattle.steps.specs.declared.texts.TextRead.TheVariants.{Of, Malformed}
 
 abbrev pub is_char : ℕ → Bool
 is_char b = leb 33 b && leb b 126
@@ -44,9 +40,4 @@ text n = record { 0 = n }
 
 -- 1 to 8 characters are a text; none for a field in another form
 unfoldable pub read_text : List ℕ → Option Text
-read_text s = cond (leb 1 (length s) && leb (length s) 8) (cond (all_chars s) (some (text (pack s))) none) none
-
--- what the reader's answer says
-abbrev pub text_answer : TextRead → Read Text
-text_answer (Of t) = value t
-text_answer (Malformed p) = wrong p
+read_text s = cond (leb 1 (length s) && leb (length s) 8) (cond (all_chars s) (Some (text (pack s))) None) None

@@ -4,68 +4,65 @@ ghost use Rattle.std.specs.Prelude.{◌≡◌, ◌≤◌, ◌+◌, length};
 ghost use Rattle.text.specs.Put.{Put};
 ghost use Rattle.text.specs.Scan.{field_at, end_at};
 ghost use Rattle.text.specs.Read.{read_at};
-ghost use Rattle.steps.specs.Text.{chars_of, is_text, text_answer, read_text};
+ghost use Rattle.steps.specs.Text.{is_char, chars_of, is_text, read_text};
 
+use text::field::{At, Malformed};
 use text::put::Cursor;
 use text::scan::find;
 
+// A number, since C has it so.
 #[derive(Clone, Copy)]
 pub struct Text(pub u64);
 
-// What a field is as a text; a malformed one, with the position where it stands.
-#[derive(Clone, Copy)]
-pub enum TextRead {
-    Of(Text),
-    Malformed(usize),
-}
-
-// That, and where the field ends.
+// What a field is as a text, and where it ends, which is told of a malformed one too.
 #[derive(Clone, Copy)]
 pub struct TextField {
-    pub text: TextRead,
+    pub text: Result<Text, Malformed>,
     pub end: usize,
 }
 
-// Reads a whole field that stands at a position, from its last character to its first.
-fn read_packed(field: &[u8], position: usize) -> TextRead
-    ensures { text_answer result ≡ read_at position (read_text field.now) }
+// Whether a byte is a character of a text.
+pub fn is_char(b: u8) -> bool
+    ensures { result ≡ is_char b }
 {
-    if field.len() < 1 {
-        return TextRead::Malformed(position);
-    }
-    if 8 < field.len() {
-        return TextRead::Malformed(position);
-    }
-    let mut n: u64 = 0;
-    let mut i = field.len();
-    while 0 < i {
-        i -= 1;
-        let b = field[i];
-        if b < 0x21 {
-            return TextRead::Malformed(position);
-        }
-        if 0x7e < b {
-            return TextRead::Malformed(position);
-        }
-        n = n * 256 + b as u64;
-    }
-    TextRead::Of(Text(n))
+    0x21 <= b && b <= 0x7e
 }
 
-// Reads the field at `from` as a text.
-pub fn read_text(s: &[u8], from: usize) -> TextField
-    requires { from ≤ length s.now }
-    ensures text_value { text_answer result.text ≡ read_at from (read_text (field_at s.now from)) }
-    ensures end_value { result.end ≡ end_at s.now from }
+// Reads a whole field, from its last character to its first.
+#[tactic(auto, unfolding(crate::specs::Text::read_text))]
+fn read_packed(field: &[u8]) -> Option<Text>
+    ensures { result ≡ read_text field.now }
 {
-    let end = find(s, from, b' ');
+    if field.len() < 1 || 8 < field.len() {
+        return None;
+    }
+    let mut n: u64 = 0;
+    for b in field.iter().rev() {
+        if !is_char(*b) {
+            return None;
+        }
+        n = n * 256 + *b as u64;
+    }
+    Some(Text(n))
+}
+
+// Reads the field at an index as a text.
+pub fn read_text(from: At<'_>) -> TextField
+    ensures text_value { result.text ≡ read_at from.entry.index (read_text (field_at from.entry.text.now from.entry.index)) }
+    ensures end_value { result.end ≡ end_at from.entry.text.now from.entry.index }
+{
+    let end = find(from, b' ');
+    let text = read_packed(&from.text[from.index..end]);
     TextField {
-        text: read_packed(&s[from..end], from),
+        text: text.ok_or(Malformed {
+            position: from.index,
+        }),
         end,
     }
 }
 
 // Whether t is a text: the characters of t are all that it holds, and there is one.
+#[tactic(auto, using(crate::proofs::Laws::only_zero, crate::proofs::Laws::only_stop, crate::proofs::Laws::only_more), unfolding(crate::specs::Text::is_text))]
 pub fn is_text(t: Text) -> bool
     ensures { result ≡ is_text t.0 }
 {
@@ -73,20 +70,14 @@ pub fn is_text(t: Text) -> bool
     if rest == 0 {
         return false;
     }
-    let mut left: usize = 8;
-    while 0 < left {
+    for _ in 0..8u8 {
         if rest == 0 {
             return true;
         }
-        let b = rest % 256;
-        if b < 0x21 {
-            return false;
-        }
-        if 0x7e < b {
+        if !is_char((rest % 256) as u8) {
             return false;
         }
         rest = rest / 256;
-        left -= 1;
     }
     rest == 0
 }
@@ -96,23 +87,15 @@ pub fn put_text(area: &mut [u8], to: Cursor, t: Text) -> Cursor
     requires { to.at + length (chars_of t.0) ≤ length area.old }
     ensures { Put area.old to (chars_of t.0) result area.new }
 {
-    let mut rest = t.0;
-    let mut left: usize = 8;
     let mut at = to.at;
     let mut sum = to.sum;
-    while 0 < left {
-        let b = (rest % 256) as u8;
-        if b < 0x21 {
-            return Cursor { at, sum };
-        }
-        if 0x7e < b {
+    for b in t.0.to_le_bytes() {
+        if !is_char(b) {
             return Cursor { at, sum };
         }
         area[at] = b;
-        sum = sum ^ b;
+        sum ^= b;
         at += 1;
-        rest = rest / 256;
-        left -= 1;
     }
     Cursor { at, sum }
 }

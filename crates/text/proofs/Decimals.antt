@@ -3,7 +3,7 @@ use Prim.Native.Nat.{ℕ, suc, ◌+◌, ◌-◌, ◌*◌, ◌^◌, ◌≤◌, �
 use mathlib.Core.Path.{◌≡◌, refl, ap, subst, ◌∙◌}
 use mathlib.Core.Bool.{Bool, true, false, cond, ◌&&◌}
 use mathlib.Core.List.{List, [], ◌∷◌, ◌++◌}
-use mathlib.Core.Option.{Option, none, some}
+use Rattle.std.specs.Prelude.{Option, None, Some, option_map}
 use native.Mathlib.Omega.{arith}
 use native.Mathlib.Nat.{pow-succ', pow-le-pow_right, mul-le-mul_right, mul_assoc}
 use borrow.Author.Tests.{ne_eqb, leb-true, ltb-true, ltb-false, eqb-true}
@@ -12,7 +12,6 @@ use lib.IntN.{ℤ, pos, negsuc, nat_abs}
 use lib.Signed.{lt_z}
 use lib.ListN.{length, take, drop, get_or, length-append}
 use lib.Seq.{take-append_seam, drop-append-add}
-use Rattle.text.specs.declared.hundredths.Magnitude.TheVariants.{Size}
 use Rattle.text.specs.Scan.{before}
 use Rattle.text.specs.Whole.{is_digit, digits_onto, read_whole, digit, shortest}
 use Rattle.text.specs.Hundredths.{decimals, magnitude, joined, times, signed, Small, read_hundredths, magnitude_text, hundredths_text}
@@ -23,12 +22,12 @@ use Rattle.text.proofs.Laws.{Skips, skips_cons, skips_append, skips_stop, not_fi
 
 -- a value that was read is below k
 abbrev pub Below : ℕ → Option ℕ → Type 0
-Below k (some v) = v < k
-Below k none = Unit
+Below k (Some v) = v < k
+Below k None = Unit
 
 below_more : (k m : ℕ) (w : Option ℕ) → k ≤ m → Below k w → Below m w
-below_more k m (some v) h b = omega arith
-below_more k m none h b = tt
+below_more k m (Some v) h b = omega arith
+below_more k m None h b = tt
 
 digit_high : (b : ℕ) → is_digit b ≡ true → b ≤ 57
 digit_high b e = leb-true b 57 (both (leb 48 b) (leb b 57) e)
@@ -46,7 +45,7 @@ digits_below (b ∷ bs) n = go (is_digit b) refl (digits_below bs (n * 10 + (b -
     more : b ≤ 57 → (n * 10 + (b - 48) + 1) * 10 ^ length bs ≤ (n + 1) * 10 ^ suc (length bs)
     more h = rw (pow-succ' 10 (length bs), ← mul_assoc (n + 1) 10 (10 ^ length bs)) (mul-le-mul_right (10 ^ length bs) (omega arith))
 
-    go : (t : Bool) → is_digit b ≡ t → Below ((n * 10 + (b - 48) + 1) * 10 ^ length bs) (digits_onto (n * 10 + (b - 48)) bs) → Below ((n + 1) * 10 ^ suc (length bs)) (cond t (digits_onto (n * 10 + (b - 48)) bs) none)
+    go : (t : Bool) → is_digit b ≡ t → Below ((n * 10 + (b - 48) + 1) * 10 ^ length bs) (digits_onto (n * 10 + (b - 48)) bs) → Below ((n + 1) * 10 ^ suc (length bs)) (cond t (digits_onto (n * 10 + (b - 48)) bs) None)
     go true e h = below_more _ _ (digits_onto (n * 10 + (b - 48)) bs) (more (digit_high b e)) h
     go false e h = tt
 
@@ -55,7 +54,7 @@ pub whole_below : (s : List ℕ) → Below (10 ^ length s) (read_whole s)
 unfolding read_whole
 whole_below s = go (leb 1 (length s) && leb (length s) 4)
   where
-    go : (t : Bool) → Below (10 ^ length s) (cond t (digits_onto 0 s) none)
+    go : (t : Bool) → Below (10 ^ length s) (cond t (digits_onto 0 s) None)
     go true = below_more _ _ (digits_onto 0 s) (omega arith) (digits_below s 0)
     go false = tt
 
@@ -63,7 +62,7 @@ whole_small : (s : List ℕ) → Below 10000 (read_whole s)
 unfolding read_whole
 whole_small s = go (leb 1 (length s)) (leb (length s) 4) refl
   where
-    go : (p q : Bool) → leb (length s) 4 ≡ q → Below 10000 (cond (p && q) (digits_onto 0 s) none)
+    go : (p q : Bool) → leb (length s) 4 ≡ q → Below 10000 (cond (p && q) (digits_onto 0 s) None)
     go true true e =
         let h : 10 ^ length s ≤ 10 ^ 4 = pow-le-pow_right (omega arith) (leb-true (length s) 4 e) in
         below_more _ _ (digits_onto 0 s) (omega arith) (digits_below s 0)
@@ -71,18 +70,18 @@ whole_small s = go (leb 1 (length s)) (leb (length s) 4) refl
     go false q e = tt
 
 tens_below : (w : Option ℕ) → Below 10 w → Below 100 (times 10 w)
-tens_below (some v) h = omega arith
-tens_below none h = tt
+tens_below (Some v) h = omega arith
+tens_below None h = tt
 
 ones_below : (w : Option ℕ) → Below 100 w → Below 100 (times 1 w)
-ones_below (some v) h = omega arith
-ones_below none h = tt
+ones_below (Some v) h = omega arith
+ones_below None h = tt
 
 decimals_below : (ds : List ℕ) → Below 100 (decimals ds)
 unfolding decimals
 decimals_below ds = go (ltb 2 (length ds)) (eqb (length ds) 1) refl refl
   where
-    go : (p q : Bool) → ltb 2 (length ds) ≡ p → eqb (length ds) 1 ≡ q → Below 100 (cond p none (times (cond q 10 1) (read_whole ds)))
+    go : (p q : Bool) → ltb 2 (length ds) ≡ p → eqb (length ds) 1 ≡ q → Below 100 (cond p None (times (cond q 10 1) (read_whole ds)))
     go true q e f = tt
     go false true e f = tens_below (read_whole ds) (subst (λ (n : ℕ). Below (10 ^ n) (read_whole ds)) (eqb-true (length ds) 1 f) (whole_below ds))
     go false false e f =
@@ -90,15 +89,15 @@ decimals_below ds = go (ltb 2 (length ds)) (eqb (length ds) 1) refl refl
         ones_below (read_whole ds) (below_more _ _ (read_whole ds) (omega arith) (whole_below ds))
 
 joined_small : (w d : Option ℕ) → Below 10000 w → Below 100 d → Small (joined w d)
-joined_small (some w) (some d) a b = omega arith
-joined_small (some w) none a b = tt
-joined_small none d a b = tt
+joined_small (Some w) (Some d) a b = omega arith
+joined_small (Some w) None a b = tt
+joined_small None d a b = tt
 
 pub magnitude_small : (s : List ℕ) → Small (magnitude s)
 unfolding magnitude
 magnitude_small s = joined_small (read_whole (take (before 46 s) s)) _ (whole_small (take (before 46 s) s)) (go (eqb (before 46 s) (length s)))
   where
-    go : (t : Bool) → Below 100 (cond t (some 0) (decimals (drop (before 46 s + 1) s)))
+    go : (t : Bool) → Below 100 (cond t (Some 0) (decimals (drop (before 46 s + 1) s)))
     go true = omega arith
     go false = decimals_below (drop (before 46 s + 1) s)
 
@@ -151,20 +150,20 @@ cut us ds e =
     let n : length us ≡ length (us ++ (46 ∷ ds)) → ⊥ = λ q. omega (arith, q, length-append us (46 ∷ ds)) in
     rw (e, take-append_seam us (46 ∷ ds), ne_eqb _ _ n, drop-append-add us (46 ∷ ds) 1)
 
-two_decimals : (v : ℕ) → v < 100 → decimals (digit 10 v ++ digit 1 v) ≡ some v
+two_decimals : (v : ℕ) → v < 100 → decimals (digit 10 v ++ digit 1 v) ≡ Some v
 unfolding decimals digit
-two_decimals v h = rw (read_two v h) (ap some (omega arith))
+two_decimals v h = rw (read_two v h) (ap Some (omega arith))
 
 digit_not : (a : ℕ) → a < 48 → (d : ℕ) → d < 10 → eqb (d + 48) a ≡ false
 digit_not a h d k = ne_eqb (d + 48) a (λ e. omega arith)
 
-read_magnitude : (m : ℕ) → m < 1000000 → magnitude (magnitude_text m) ≡ Size m
+read_magnitude : (m : ℕ) → m < 1000000 → magnitude (magnitude_text m) ≡ Some m
 unfolding magnitude_text
 read_magnitude m h =
     let w : ℕ = m / 100 % 10000 in
     let point = skips_stop (λ b. eqb b 46) (shortest w) 46 _ (shortest_skips _ (digit_not 46 (omega arith)) w) refl in
     cut (shortest w) _ point
-    ∙ rw (read_shortest w (omega arith), two_decimals (m % 100) (omega arith)) (ap Size (omega arith))
+    ∙ rw (read_shortest w (omega arith), two_decimals (m % 100) (omega arith)) (ap Some (omega arith))
 
 -- a magnitude does not start with "-"
 unsigned : (m : ℕ) → get_or (magnitude_text m) 0 0 ≡ 45 → ⊥
@@ -173,7 +172,7 @@ unsigned m =
     let ds : List ℕ = 46 ∷ (digit 10 (m % 100) ++ digit 1 (m % 100)) in
     not_first 45 (shortest (m / 100 % 10000) ++ ds) (omega (arith, shortest_skips (λ b. eqb b 45) (digit_not 45 (omega arith)) (m / 100 % 10000) ds, shortest_some (m / 100 % 10000)))
 
-pub read_hundredths_lem : (z : ℤ) → nat_abs z < 1000000 → read_hundredths (hundredths_text z) ≡ some z
+pub read_hundredths_lem : (z : ℤ) → nat_abs z < 1000000 → read_hundredths (hundredths_text z) ≡ Some z
 unfolding read_hundredths hundredths_text
-read_hundredths_lem (pos m) h = rw (ne_eqb _ _ (unsigned m)) (ap (signed false) (read_magnitude m h))
-read_hundredths_lem (negsuc m) h = ap (signed true) (read_magnitude (suc m) h)
+read_hundredths_lem (pos m) h = rw (ne_eqb _ _ (unsigned m)) (ap (option_map (signed false)) (read_magnitude m h))
+read_hundredths_lem (negsuc m) h = ap (option_map (signed true)) (read_magnitude (suc m) h)

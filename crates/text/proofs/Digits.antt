@@ -3,7 +3,7 @@ use Prim.Native.Nat.{ℕ, ◌+◌, ◌*◌, ◌≤◌, ◌<◌, ◌/◌, ◌%◌
 use mathlib.Core.Path.{◌≡◌, refl, ap, ◌∙◌}
 use mathlib.Core.Bool.{Bool, true, false}
 use mathlib.Core.List.{List, [], ◌∷◌, ◌++◌}
-use mathlib.Core.Option.{some}
+use Rattle.std.specs.Prelude.{Some}
 use native.Mathlib.Omega.{arith}
 use native.Mathlib.Nat.{add-sub_cancel, div-eq_of_lt}
 use borrow.Author.Tests.{le-leb, lt-ltb, le-ltb, ltb-true, ltb-false}
@@ -95,29 +95,29 @@ leading_read u v n bs e = go (ltb v u) refl
     go false q = rw (leading_some u v (ltb-false v u q)) (digit_read u v n bs e)
 
 -- the last digit, in either form
-last_read : (v n : ℕ) → n ≡ v / 10 → digits_onto n (digit 1 v) ≡ some v
+last_read : (v n : ℕ) → n ≡ v / 10 → digits_onto n (digit 1 v) ≡ Some v
 unfolding digit digits_onto
-last_read v n e = digit_read 1 v n [] (omega arith) ∙ ap some (omega arith)
+last_read v n e = digit_read 1 v n [] (omega arith) ∙ ap Some (omega arith)
 
 -- 1 to 4 digits are a whole number
-read_is : (s : List ℕ) (v : ℕ) → 1 ≤ length s → length s ≤ 4 → digits_onto 0 s ≡ some v → read_whole s ≡ some v
+read_is : (s : List ℕ) (v : ℕ) → 1 ≤ length s → length s ≤ 4 → digits_onto 0 s ≡ Some v → read_whole s ≡ Some v
 unfolding read_whole
 read_is s v a b e = rw (le-leb _ _ a, le-leb _ _ b) e
 
-pub read_shortest : (v : ℕ) → v < 10000 → read_whole (shortest v) ≡ some v
+pub read_shortest : (v : ℕ) → v < 10000 → read_whole (shortest v) ≡ Some v
 unfolding shortest
 read_shortest v h =
     read_is (shortest v) v (shortest_some v) (shortest_short v)
     (leading_read 1000 v 0 _ (omega arith) ∙ leading_read 100 v _ _ (omega arith) ∙ leading_read 10 v _ _ (omega arith) ∙ last_read v _ refl)
 
-pub read_padded : (v : ℕ) → v < 10000 → read_whole (padded v) ≡ some v
+pub read_padded : (v : ℕ) → v < 10000 → read_whole (padded v) ≡ Some v
 unfolding padded
 read_padded v h =
     read_is (padded v) v (omega (arith, padded_length v)) (omega (arith, padded_length v))
     (digit_read 1000 v 0 _ (omega arith) ∙ digit_read 100 v _ _ (omega arith) ∙ digit_read 10 v _ _ (omega arith) ∙ last_read v _ refl)
 
 -- two digits, as after a point
-pub read_two : (v : ℕ) → v < 100 → read_whole (two_digits v) ≡ some v
+pub read_two : (v : ℕ) → v < 100 → read_whole (two_digits v) ≡ Some v
 read_two v h =
     let k : length (two_digits v) ≡ 2 = two_length v in
     read_is (two_digits v) v (omega arith) (omega arith) (digit_read 10 v 0 (digit 1 v) (omega arith) ∙ last_read v _ refl)

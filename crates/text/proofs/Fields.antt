@@ -3,7 +3,8 @@ use Prim.Native.Nat.{ℕ, zero, suc, ◌+◌, ◌*◌, ◌-◌, ◌≤◌, ◌<�
 use mathlib.Core.Path.{◌≡◌, refl, sym, ap, subst, ◌∙◌}
 use mathlib.Core.Bool.{Bool, true, false, cond, ◌&&◌}
 use mathlib.Core.List.{List, [], ◌∷◌}
-use mathlib.Core.Option.{none, some, none-ne-some}
+use Rattle.std.specs.Prelude.{None, Some}
+use Rattle.std.proofs.lemmas.Option.{none-some}
 use native.Mathlib.Omega.{arith}
 use borrow.Author.Tests.{le-leb, lt-leb, lt-ltb, eq-eqb, ne_eqb}
 use lib.Dec.{leb, ltb, eqb, leb-suc-suc}
@@ -13,8 +14,6 @@ use lib.Seq.{length-take-le, drop-drop, get_or-drop}
 use Rattle.text.specs.Scan.{until, before, field_at, end_at, empty_or}
 use Rattle.text.specs.Whole.{is_digit, digits_onto, read_whole, digit_count, digit_value}
 use Rattle.text.specs.Hundredths.{magnitude, joined, decimals}
-use Rattle.text.specs.declared.whole.Whole.TheVariants.{Value, Malformed}
-use Rattle.text.specs.declared.hundredths.Magnitude.TheVariants.{Size, Unreadable}
 use Rattle.text.proofs.Laws.{here, over}
 
 -- ---- a search stays inside
@@ -93,22 +92,22 @@ module _ (a : ℕ) (nd : is_digit a ≡ false) where
       go false false e f ih = rw e
 
   -- the part up to the first a, read onto n, where it has k bytes at most
-  read_onto : (k n : ℕ) (s : List ℕ) → cond (leb (before a s) k) (digits_onto n (take (before a s) s)) none ≡ cond (empty_or a (drop (digit_count k s) s)) (some (digit_value k n s)) none
+  read_onto : (k n : ℕ) (s : List ℕ) → cond (leb (before a s) k) (digits_onto n (take (before a s) s)) None ≡ cond (empty_or a (drop (digit_count k s) s)) (Some (digit_value k n s)) None
   unfolding until digit_count digit_value digits_onto
   read_onto zero n [] = refl
   read_onto zero n (b ∷ bs) = go (eqb b a)
     where
-      go : (u : Bool) → cond (leb (cond u zero (suc (before a bs))) 0) (digits_onto n (take (cond u zero (suc (before a bs))) (b ∷ bs))) none ≡ cond u (some n) none
+      go : (u : Bool) → cond (leb (cond u zero (suc (before a bs))) 0) (digits_onto n (take (cond u zero (suc (before a bs))) (b ∷ bs))) None ≡ cond u (Some n) None
       go true = refl
       go false = rw (lt-leb (suc (before a bs)) 0 (omega arith))
   read_onto (suc k) n [] = rw (le-leb 0 (suc k) (omega arith))
   read_onto (suc k) n (b ∷ bs) = go (is_digit b) (eqb b a) refl refl (read_onto k (n * 10 + (b - 48)) bs)
     where
-      go : (t u : Bool) → is_digit b ≡ t → eqb b a ≡ u → cond (leb (before a bs) k) (digits_onto (n * 10 + (b - 48)) (take (before a bs) bs)) none ≡ cond (empty_or a (drop (digit_count k bs) bs)) (some (digit_value k (n * 10 + (b - 48)) bs)) none → cond (leb (cond u zero (suc (before a bs))) (suc k)) (digits_onto n (take (cond u zero (suc (before a bs))) (b ∷ bs))) none ≡ cond (empty_or a (drop (cond t (suc (digit_count k bs)) zero) (b ∷ bs))) (some (cond t (digit_value k (n * 10 + (b - 48)) bs) n)) none
+      go : (t u : Bool) → is_digit b ≡ t → eqb b a ≡ u → cond (leb (before a bs) k) (digits_onto (n * 10 + (b - 48)) (take (before a bs) bs)) None ≡ cond (empty_or a (drop (digit_count k bs) bs)) (Some (digit_value k (n * 10 + (b - 48)) bs)) None → cond (leb (cond u zero (suc (before a bs))) (suc k)) (digits_onto n (take (cond u zero (suc (before a bs))) (b ∷ bs))) None ≡ cond (empty_or a (drop (cond t (suc (digit_count k bs)) zero) (b ∷ bs))) (Some (cond t (digit_value k (n * 10 + (b - 48)) bs) n)) None
       go true true e f ih = false_true (sym (other b e) ∙ f)
       go true false e f ih = rw (leb-suc-suc (before a bs) k, e) ih
       go false true e f ih = rw (f, le-leb 0 (suc k) (omega arith))
-      go false false e f ih = rw (e, f) (either (leb (suc (before a bs)) (suc k)) none)
+      go false false e f ih = rw (e, f) (either (leb (suc (before a bs)) (suc k)) None)
 
   -- nothing stands before it
   none_before : (s : List ℕ) → empty_or a s ≡ true → before a s ≡ 0
@@ -124,24 +123,24 @@ module _ (a : ℕ) (nd : is_digit a ≡ false) where
     pub digits_end : empty_or a (drop (digit_count 4 s) s) ≡ true → before a s ≡ digit_count 4 s
     digits_end e = omega (arith, digits_before 4 s, none_before (drop (digit_count 4 s) s) e)
 
-    pub whole_read : 1 ≤ digit_count 4 s → empty_or a (drop (digit_count 4 s) s) ≡ true → read_whole (take (before a s) s) ≡ some (digit_value 4 0 s)
+    pub whole_read : 1 ≤ digit_count 4 s → empty_or a (drop (digit_count 4 s) s) ≡ true → read_whole (take (before a s) s) ≡ Some (digit_value 4 0 s)
     unfolding read_whole
     whole_read h e = rw (part_length, le-leb 1 (before a s) (omega (arith, digits_end e))) (read_onto 4 0 s ∙ rw e)
 
     -- they end at another byte, or there are none
-    pub whole_other : empty_or a (drop (digit_count 4 s) s) ≡ false → read_whole (take (before a s) s) ≡ none
+    pub whole_other : empty_or a (drop (digit_count 4 s) s) ≡ false → read_whole (take (before a s) s) ≡ None
     unfolding read_whole
     whole_other e = rw part_length (go (leb 1 (before a s)) (read_onto 4 0 s ∙ rw e))
       where
-        go : (t : Bool) → cond (leb (before a s) 4) (digits_onto 0 (take (before a s) s)) none ≡ none → cond (t && leb (before a s) 4) (digits_onto 0 (take (before a s) s)) none ≡ none
+        go : (t : Bool) → cond (leb (before a s) 4) (digits_onto 0 (take (before a s) s)) None ≡ None → cond (t && leb (before a s) 4) (digits_onto 0 (take (before a s) s)) None ≡ None
         go true p = p
         go false p = refl
 
-    pub whole_none : digit_count 4 s ≡ 0 → read_whole (take (before a s) s) ≡ none
+    pub whole_none : digit_count 4 s ≡ 0 → read_whole (take (before a s) s) ≡ None
     unfolding read_whole
     whole_none z = go (empty_or a (drop (digit_count 4 s) s)) refl
       where
-        go : (t : Bool) → empty_or a (drop (digit_count 4 s) s) ≡ t → read_whole (take (before a s) s) ≡ none
+        go : (t : Bool) → empty_or a (drop (digit_count 4 s) s) ≡ t → read_whole (take (before a s) s) ≡ None
         go true e = rw (part_length, lt-leb 1 (before a s) (omega (arith, digits_end e)))
         go false e = whole_other e
 
@@ -159,35 +158,27 @@ pub some_digits : (i n : ℕ) {e : ℕ} → e ≡ i + n → (e ≡ i → ⊥) �
 some_digits i zero q h = absurd (h (omega arith))
 some_digits i (suc n) q h = omega arith
 
--- ---- what is malformed is no number
-
-pub no_whole : {A : Type 0} {p v : ℕ} → Malformed p ≡ Value v → A
-no_whole e = let z : ◌≡◌ {A = ℕ} 0 1 = cc in absurd (omega arith)
-
-pub no_magnitude : {A : Type 0} {m : ℕ} → Unreadable ≡ Size m → A
-no_magnitude e = let z : ◌≡◌ {A = ℕ} 0 1 = cc in absurd (omega arith)
-
 -- ---- a field as the digits after a point
 
-pub decimals_none : (f : List ℕ) → read_whole f ≡ none → decimals f ≡ none
+pub decimals_none : (f : List ℕ) → read_whole f ≡ None → decimals f ≡ None
 unfolding decimals
-decimals_none f e = rw e (either (ltb 2 (length f)) none)
+decimals_none f e = rw e (either (ltb 2 (length f)) None)
 
-module _ (f : List ℕ) {v : ℕ} (e : read_whole f ≡ some v) where
-  pub decimals_one : length f ≡ 1 → decimals f ≡ some (v * 10)
+module _ (f : List ℕ) {v : ℕ} (e : read_whole f ≡ Some v) where
+  pub decimals_one : length f ≡ 1 → decimals f ≡ Some (v * 10)
   unfolding decimals
   decimals_one l = rw (l, e)
 
-  pub decimals_two : length f ≡ 2 → decimals f ≡ some v
+  pub decimals_two : length f ≡ 2 → decimals f ≡ Some v
   unfolding decimals
-  decimals_two l = rw (l, e) (ap some (omega arith))
+  decimals_two l = rw (l, e) (ap Some (omega arith))
 
-  pub decimals_more : (length f ≡ 1 → ⊥) → (length f ≡ 2 → ⊥) → decimals f ≡ none
+  pub decimals_more : (length f ≡ 1 → ⊥) → (length f ≡ 2 → ⊥) → decimals f ≡ None
   unfolding decimals read_whole
   decimals_more n m = go (length f) refl
     where
-      go : (l : ℕ) → length f ≡ l → decimals f ≡ none
-      go zero z = absurd (none-ne-some v (rw z at e))
+      go : (l : ℕ) → length f ≡ l → decimals f ≡ None
+      go zero z = absurd (none-some v (rw z at e))
       go (suc zero) z = absurd (n z)
       go (suc (suc zero)) z = absurd (m z)
       go (suc (suc (suc l))) z = rw (lt-ltb 2 (length f) (omega arith))
@@ -210,19 +201,19 @@ module _ (t : List ℕ) where
   unfolding field
   follows = digits_drop 32 refl 4 t
 
-  magnitude_none : digit_count 4 t ≡ 0 → magnitude (take (before 32 t) t) ≡ Unreadable
+  magnitude_none : digit_count 4 t ≡ 0 → magnitude (take (before 32 t) t) ≡ None
   unfolding magnitude field
   magnitude_none z = rw (whole_none 46 refl field (count ∙ z))
 
   -- it ends with its digits
-  magnitude_whole : 1 ≤ digit_count 4 t → empty_or 32 (drop (digit_count 4 t) t) ≡ true → magnitude (take (before 32 t) t) ≡ Size (digit_value 4 0 t * 100)
+  magnitude_whole : 1 ≤ digit_count 4 t → empty_or 32 (drop (digit_count 4 t) t) ≡ true → magnitude (take (before 32 t) t) ≡ Some (digit_value 4 0 t * 100)
   unfolding magnitude field
   magnitude_whole h e =
       let z : before 32 (drop (digit_count 4 t) t) ≡ 0 = none_before 32 refl (drop (digit_count 4 t) t) e in
       let stop : empty_or 46 (drop (digit_count 4 field) field) ≡ true = rw (count, follows, z) in
       let p : before 46 field ≡ digit_count 4 t = digits_end 46 refl field stop ∙ count in
       let l : length field ≡ digit_count 4 t = part_length 32 refl t ∙ digits_end 32 refl t e in
-      rw (whole_read 46 refl field (rw count h) stop, p, l, eq-eqb (digit_count 4 t) (digit_count 4 t) refl, value) (ap Size (omega arith))
+      rw (whole_read 46 refl field (rw count h) stop, p, l, eq-eqb (digit_count 4 t) (digit_count 4 t) refl, value) (ap Some (omega arith))
 
   -- another byte follows them
   module _ (m : digit_count 4 t < length t) (o : empty_or 32 (drop (digit_count 4 t) t) ≡ false) where
@@ -240,12 +231,12 @@ module _ (t : List ℕ) where
     unfolding until
     behind = follows ∙ rw (here t (digit_count 4 t) m) (rw (rw (here t (digit_count 4 t) m) at o))
 
-    magnitude_other : (get_or t (digit_count 4 t) 0 ≡ 46 → ⊥) → magnitude (take (before 32 t) t) ≡ Unreadable
+    magnitude_other : (get_or t (digit_count 4 t) 0 ≡ 46 → ⊥) → magnitude (take (before 32 t) t) ≡ None
     unfolding magnitude field
     magnitude_other h = rw (whole_other 46 refl field (rw (count, behind) (ne_eqb _ _ h)))
 
     -- a point
-    magnitude_point : 1 ≤ digit_count 4 t → get_or t (digit_count 4 t) 0 ≡ 46 → magnitude (take (before 32 t) t) ≡ joined (some (digit_value 4 0 t)) (decimals (take (before 32 (drop (digit_count 4 t + 1) t)) (drop (digit_count 4 t + 1) t)))
+    magnitude_point : 1 ≤ digit_count 4 t → get_or t (digit_count 4 t) 0 ≡ 46 → magnitude (take (before 32 t) t) ≡ joined (Some (digit_value 4 0 t)) (decimals (take (before 32 (drop (digit_count 4 t + 1) t)) (drop (digit_count 4 t + 1) t)))
     unfolding magnitude field
     magnitude_point h e =
         let stop : empty_or 46 (drop (digit_count 4 field) field) ≡ true = rw (count, behind) (eq-eqb _ _ e) in
@@ -256,10 +247,10 @@ module _ (t : List ℕ) where
 
 -- the same, where the field stands at index i of s and its digits end at e
 module _ (s : List ℕ) (i e : ℕ) (q : e ≡ i + digit_count 4 (drop i s)) where
-  pub field_none : e ≡ i → magnitude (field_at s i) ≡ Unreadable
+  pub field_none : e ≡ i → magnitude (field_at s i) ≡ None
   field_none z = magnitude_none (drop i s) (omega arith)
 
-  pub field_whole : (e ≡ i → ⊥) → true ≡ empty_or 32 (drop e s) → (magnitude (field_at s i) ≡ Size (digit_value 4 0 (drop i s) * 100)) × (e ≡ end_at s i)
+  pub field_whole : (e ≡ i → ⊥) → true ≡ empty_or 32 (drop e s) → (magnitude (field_at s i) ≡ Some (digit_value 4 0 (drop i s) * 100)) × (e ≡ end_at s i)
   field_whole n r =
       let t = end_test s i (digit_count 4 (drop i s)) q r in
       (magnitude_whole (drop i s) (some_digits i _ q n) t, omega (arith, digits_end 32 refl (drop i s) t))
@@ -271,10 +262,10 @@ module _ (s : List ℕ) (i e : ℕ) (q : e ≡ i + digit_count 4 (drop i s)) whe
     byte : get_or (drop i s) (digit_count 4 (drop i s)) 0 ≡ get_or s e 0
     byte = get_or-drop i s (digit_count 4 (drop i s)) 0 ∙ rw (← q)
 
-    pub field_other : (get_or s e 0 ≡ 46 → ⊥) → magnitude (field_at s i) ≡ Unreadable
+    pub field_other : (get_or s e 0 ≡ 46 → ⊥) → magnitude (field_at s i) ≡ None
     field_other n = magnitude_other (drop i s) within (end_test s i (digit_count 4 (drop i s)) q r) (λ z. n (sym byte ∙ z))
 
-    pub field_point : (e ≡ i → ⊥) → get_or s e 0 ≡ 46 → (magnitude (field_at s i) ≡ joined (some (digit_value 4 0 (drop i s))) (decimals (field_at s (e + 1)))) × (end_at s (e + 1) ≡ end_at s i)
+    pub field_point : (e ≡ i → ⊥) → get_or s e 0 ≡ 46 → (magnitude (field_at s i) ≡ joined (Some (digit_value 4 0 (drop i s))) (decimals (field_at s (e + 1)))) × (end_at s (e + 1) ≡ end_at s i)
     field_point n z =
         let t = end_test s i (digit_count 4 (drop i s)) q r in
         let k : i + (digit_count 4 (drop i s) + 1) ≡ e + 1 = omega arith in

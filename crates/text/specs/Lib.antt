@@ -1,5 +1,5 @@
-pub mod Read
 pub mod Scan
+pub mod Read
 pub mod Put
 pub mod Whole
 pub mod Hundredths

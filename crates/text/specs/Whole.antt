@@ -1,9 +1,5 @@
 -- Whole numbers as text (document 01, "Numbers as text").
-use Rattle.std.specs.Prelude.{ℕ, zero, suc, ◌+◌, ◌-◌, ◌*◌, ◌/◌, ◌%◌, Bool, cond, ◌&&◌, List, [], ◌∷◌, ◌++◌, length, ltb, leb}
-use Rattle.std.proofs.Math.Option.{Option, none, some}
-use Rattle.text.specs.Read.{Read, value, wrong}
-use Rattle.text.specs.declared.whole.Whole.{Whole}
-use Rattle.text.specs.declared.whole.Whole.TheVariants.{Value, Malformed}
+use Rattle.std.specs.Prelude.{ℕ, zero, suc, ◌+◌, ◌-◌, ◌*◌, ◌/◌, ◌%◌, Bool, cond, ◌&&◌, List, [], ◌∷◌, ◌++◌, length, ltb, leb, Option, None, Some}
 
 -- "0" to "9"
 abbrev pub is_digit : ℕ → Bool
@@ -11,17 +7,12 @@ is_digit b = leb 48 b && leb b 57
 
 -- the digits read onto n
 unfoldable pub digits_onto : ℕ → List ℕ → Option ℕ
-digits_onto n [] = some n
-digits_onto n (b ∷ bs) = cond (is_digit b) (digits_onto (n * 10 + (b - 48)) bs) none
+digits_onto n [] = Some n
+digits_onto n (b ∷ bs) = cond (is_digit b) (digits_onto (n * 10 + (b - 48)) bs) None
 
 -- 1 to 4 digits, leading zeros allowed, no sign; none for any other text
 unfoldable pub read_whole : List ℕ → Option ℕ
-read_whole s = cond (leb 1 (length s) && leb (length s) 4) (digits_onto 0 s) none
-
--- what the reader's answer says
-abbrev pub whole_answer : Whole → Read ℕ
-whole_answer (Value v) = value v
-whole_answer (Malformed p) = wrong p
+read_whole s = cond (leb 1 (length s) && leb (length s) 4) (digits_onto 0 s) None
 
 -- how many digits a text starts with, of its first k bytes
 unfoldable pub digit_count : ℕ → List ℕ → ℕ

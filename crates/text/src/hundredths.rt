@@ -1,171 +1,101 @@
 // Hundredths: read from an optional "-", 1 to 4 digits, and nothing or a point with 1 or 2 digits; written
 // with the shortest whole part and two decimals, "-" only below zero.
-ghost use Rattle.std.specs.Prelude.{◌≡◌, ℕ, ◌≤◌, ◌<◌, ◌+◌, not, eqb, length, ℤ, nat_abs};
+ghost use Rattle.std.specs.Prelude.{◌≡◌, ◌≤◌, ◌<◌, ◌+◌, not, eqb, length, option_map};
 ghost use Rattle.text.specs.Put.{Put};
 ghost use Rattle.text.specs.Scan.{field_at, end_at};
-ghost use Rattle.text.specs.Read.{read_at};
-ghost use Rattle.text.specs.Whole.{whole_answer};
-ghost use Rattle.text.specs.declared.whole.Whole.TheVariants as whole;
-ghost use Rattle.text.specs.declared.hundredths.Magnitude.TheVariants.{Size};
-ghost use Rattle.text.specs.declared.hundredths.Hundredths.TheVariants.{Value};
-ghost use Rattle.text.specs.Hundredths.{Small, decimals, magnitude, signed, read_hundredths, hundredths_answer, magnitude_text, sign, hundredths_text};
+ghost use Rattle.text.specs.Read.{field_with, read_field_at};
+ghost use Rattle.text.specs.Hundredths.{decimals, magnitude, signed, read_hundredths, magnitude_text, sign, hundredths_text};
 
+use crate::field::{At, Field, Malformed};
 use crate::put::{Cursor, put_byte};
 use crate::scan::is_end;
-use crate::whole::{Whole, WholeField, put_shortest, put_two_digits, read_digits, read_whole};
+use crate::whole::{put_shortest, put_two_digits, read_digits, read_whole};
 
-// A number of hundredths without its sign.
-#[derive(Clone, Copy)]
-pub enum Magnitude {
-    Size(u32),
-    Unreadable,
-}
-
-// What a text is as a number of hundredths; a malformed one, with the position where it stands.
-#[derive(Clone, Copy)]
-pub enum Hundredths {
-    Value(i32),
-    Malformed(usize),
-}
-
-// What a field is as either, and where the field ends. The end of one that cannot be read is not looked for.
-#[derive(Clone, Copy)]
-pub struct MagnitudeField {
-    pub magnitude: Magnitude,
-    pub end: usize,
-}
-
-#[derive(Clone, Copy)]
-pub struct HundredthsField {
-    pub hundredths: Hundredths,
-    pub end: usize,
-}
-
-// Reads the field at `from` as the digits after a point: one counts tenths, two count hundredths.
-fn read_decimals(s: &[u8], from: usize) -> WholeField
-    requires { from ≤ length s.now }
-    ensures whole_value { whole_answer result.whole ≡ read_at from (decimals (field_at s.now from)) }
-    ensures end_value { (v : ℕ) → result.whole ≡ whole.Value v → result.end ≡ end_at s.now from }
+// Reads the field at an index as the digits after a point: one counts tenths, two count hundredths.
+fn read_decimals(from: At<'_>) -> Option<Field<u16>>
+    ensures { result ≡ field_with decimals from.entry.text.now from.entry.index }
 {
-    let read = read_whole(s, from);
-    let end = read.end;
-    let whole = read.whole;
-    let Whole::Value(v) = whole else {
-        return WholeField {
-            whole: Whole::Malformed(from),
-            end,
-        };
+    let Ok(digits) = read_whole(from) else {
+        return None;
     };
-    if end == from + 1 {
-        return WholeField {
-            whole: Whole::Value(v * 10),
-            end,
-        };
-    }
-    if end == from + 2 {
-        return WholeField {
-            whole: Whole::Value(v),
-            end,
-        };
-    }
-    WholeField {
-        whole: Whole::Malformed(from),
-        end,
+    match digits.end - from.index {
+        1 => Some(Field {
+            value: digits.value * 10,
+            end: digits.end,
+        }),
+        2 => Some(digits),
+        _ => None,
     }
 }
 
-// Reads the field at `from` as a number without a sign.
-fn read_magnitude(s: &[u8], from: usize) -> MagnitudeField
-    requires { from ≤ length s.now }
-    ensures magnitude_value { result.magnitude ≡ magnitude (field_at s.now from) }
-    ensures end_value { (m : ℕ) → result.magnitude ≡ Size m → result.end ≡ end_at s.now from }
+// Reads the field at an index as a number without a sign.
+fn read_magnitude(from: At<'_>) -> Option<Field<u32>>
+    ensures { result ≡ field_with magnitude from.entry.text.now from.entry.index }
 {
-    let digits = read_digits(s, from);
-    let point = digits.end;
+    let digits = read_digits(from);
     let units = digits.value as u32;
-    if point == from {
-        return MagnitudeField {
-            magnitude: Magnitude::Unreadable,
-            end: point,
-        };
+    if digits.end == from.index {
+        return None;
     }
-    if is_end(s, point) {
-        return MagnitudeField {
-            magnitude: Magnitude::Size(units * 100),
-            end: point,
-        };
+    let point = At {
+        text: from.text,
+        index: digits.end,
+    };
+    if is_end(point) {
+        return Some(Field {
+            value: units * 100,
+            end: digits.end,
+        });
     }
-    if s[point] != b'.' {
-        return MagnitudeField {
-            magnitude: Magnitude::Unreadable,
-            end: point,
-        };
+    if from.text[digits.end] != b'.' {
+        return None;
     }
-    let decimals = read_decimals(s, point + 1);
-    let end = decimals.end;
-    let whole = decimals.whole;
-    match whole {
-        Whole::Value(cents) => MagnitudeField {
-            magnitude: Magnitude::Size(units * 100 + cents as u32),
-            end,
-        },
-        Whole::Malformed(_) => MagnitudeField {
-            magnitude: Magnitude::Unreadable,
-            end,
-        },
-    }
+    let decimals = read_decimals(At {
+        text: from.text,
+        index: digits.end + 1,
+    })?;
+    Some(Field {
+        value: units * 100 + decimals.value as u32,
+        end: decimals.end,
+    })
 }
 
-// The magnitude with its sign, of a field at `at`.
-fn with_sign(m: Magnitude, minus: bool, at: usize) -> Hundredths
-    requires { Small m }
-    ensures { hundredths_answer result ≡ read_at at (signed minus m) }
+// The magnitude with its sign.
+fn with_sign(m: u32, minus: bool) -> i32
+    requires { m < 1000000 }
+    ensures { result ≡ signed minus m }
 {
-    match m {
-        Magnitude::Size(k) => {
-            if minus {
-                return Hundredths::Value(0 - (k as i32));
-            }
-            Hundredths::Value(k as i32)
-        }
-        Magnitude::Unreadable => Hundredths::Malformed(at),
-    }
+    if minus { 0 - (m as i32) } else { m as i32 }
 }
 
-// Where the digits of the field at `from` start: behind "-", where one stands there.
-fn after_sign(s: &[u8], from: usize) -> usize
-    requires { from ≤ length s.now }
-    ensures from_value { read_hundredths (field_at s.now from) ≡ signed (not (eqb result from)) (magnitude (field_at s.now result)) }
-    ensures result_value { (end_at s.now result ≡ end_at s.now from) × (result ≤ length s.now) }
+// Where the digits of the field at an index start: behind "-", where one stands there.
+fn after_sign<'a>(from: At<'a>) -> At<'a>
+    ensures from_value { read_hundredths (field_at from.entry.text.now from.entry.index) ≡ option_map (signed (not (eqb result.index from.entry.index))) (magnitude (field_at from.entry.text.now result.index)) }
+    ensures result_value { (end_at from.entry.text.now result.index ≡ end_at from.entry.text.now from.entry.index) × (result.text.now ≡ from.entry.text.now) }
 {
-    if from < s.len() {
-        if s[from] == b'-' {
-            return from + 1;
-        }
+    if from.index < from.text.len() && from.text[from.index] == b'-' {
+        return At {
+            text: from.text,
+            index: from.index + 1,
+        };
     }
     from
 }
 
-// Reads the field at `from` as a number of hundredths, byte by byte up to its end; any other text is malformed.
-pub fn read_hundredths(s: &[u8], from: usize) -> HundredthsField
-    requires { from ≤ length s.now }
-    ensures hundredths_value { hundredths_answer result.hundredths ≡ read_at from (read_hundredths (field_at s.now from)) }
-    ensures end_value { (v : ℤ) → result.hundredths ≡ Value v → result.end ≡ end_at s.now from }
+// Reads the field at an index as a number of hundredths, byte by byte up to its end; any other text is malformed.
+pub fn read_hundredths(from: At<'_>) -> Result<Field<i32>, Malformed>
+    ensures { result ≡ read_field_at read_hundredths from.entry.text.now from.entry.index }
 {
-    let start = after_sign(s, from);
-    let read = read_magnitude(s, start);
-    let size = read.magnitude;
-    HundredthsField {
-        hundredths: with_sign(size, start != from, from),
-        end: read.end,
-    }
-}
-
-// v without its sign.
-pub fn unsigned_abs(v: i32) -> u32
-    ensures { result ≡ nat_abs v }
-{
-    if v < 0 { (-1 - v) as u32 + 1 } else { v as u32 }
+    let digits = after_sign(from);
+    let Some(size) = read_magnitude(digits) else {
+        return Err(Malformed {
+            position: from.index,
+        });
+    };
+    Ok(Field {
+        value: with_sign(size.value, digits.index != from.index),
+        end: size.end,
+    })
 }
 
 // Writes a number without a sign.
@@ -195,7 +125,7 @@ pub fn put_hundredths(area: &mut [u8], to: Cursor, v: i32) -> Cursor
     requires { to.at + length (hundredths_text v) ≤ length area.old }
     ensures { Put area.old to (hundredths_text v) result area.new }
 {
-    let m = unsigned_abs(v);
+    let m = v.unsigned_abs();
     let digits = put_sign(area, to, v < 0);
     put_magnitude(area, digits, m)
 }

@@ -7,6 +7,7 @@
 // number in range reads back as itself is proved in proofs/.
 #![tactic(auto)]
 
+pub mod field; // field.rt: where a field stands, and what reading it returns
 pub mod scan; // scan.rt: the index of the first byte of a given value, and the end of a field
 pub mod put; // put.rt: bytes written into a lent area
 pub mod whole; // whole.rt: whole numbers of 1 to 4 digits

@@ -30,13 +30,10 @@ pub fn put_bytes(area: &mut [u8], to: Cursor, s: &[u8]) -> Cursor
 {
     let mut at = to.at;
     let mut sum = to.sum;
-    let mut i = 0;
-    while i < s.len() {
-        let b = s[i];
-        area[at] = b;
-        sum = sum ^ b;
+    for b in s {
+        area[at] = *b;
+        sum ^= *b;
         at += 1;
-        i += 1;
     }
     Cursor { at, sum }
 }

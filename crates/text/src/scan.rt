@@ -3,28 +3,23 @@
 ghost use Rattle.std.specs.Prelude.{◌≡◌, ◌≤◌, ◌+◌, length, drop};
 ghost use Rattle.text.specs.Scan.{before, empty_or};
 
-// The index of the first `byte` of s at `from` or after it; s's length where there is none.
-pub fn find(s: &[u8], from: usize, byte: u8) -> usize
-    requires { from ≤ length s.now }
-    ensures { (result ≡ from + before byte (drop from s.now)) × (result ≤ length s.now) }
+use crate::field::At;
+
+// The index of the first `byte` of the text at `from` or after it; the text's length where there is none.
+pub fn find(from: At<'_>, byte: u8) -> usize
+    ensures { (result ≡ from.entry.index + before byte (drop from.entry.index from.entry.text.now)) × (result ≤ length from.entry.text.now) }
 {
-    let mut i = from;
-    while i < s.len() {
-        if s[i] == byte {
+    for i in from.index..from.text.len() {
+        if from.text[i] == byte {
             return i;
         }
-        i += 1;
     }
-    i
+    from.text.len()
 }
 
-// Whether a field ends at i: at SP, or at the end of s.
-pub fn is_end(s: &[u8], i: usize) -> bool
-    requires { i ≤ length s.now }
-    ensures { result ≡ empty_or 32 (drop i s.now) }
+// Whether a field ends there: at SP, or at the end of the text.
+pub fn is_end(at: At<'_>) -> bool
+    ensures { result ≡ empty_or 32 (drop at.entry.index at.entry.text.now) }
 {
-    if i == s.len() {
-        return true;
-    }
-    s[i] == b' '
+    at.index == at.text.len() || at.text[at.index] == b' '
 }

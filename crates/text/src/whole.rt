@@ -1,94 +1,53 @@
 // Whole numbers: read from 1 to 4 digits, leading zeros allowed; written shortest, or always with 4 digits.
-ghost use Rattle.std.specs.Prelude.{◌≡◌, ℕ, ◌≤◌, ◌<◌, ◌+◌, length, drop};
+ghost use Rattle.std.specs.Prelude.{◌≡◌, ◌≤◌, ◌<◌, ◌+◌, length, drop, IfOk};
 ghost use Rattle.text.specs.Put.{Put};
-ghost use Rattle.text.specs.Scan.{field_at, end_at};
-ghost use Rattle.text.specs.Read.{read_at};
-ghost use Rattle.text.specs.Whole.{read_whole, whole_answer, digit_count, digit_value, digit, leading, shortest, two_digits, padded};
-ghost use Rattle.text.specs.declared.whole.Whole.TheVariants.{Value};
+ghost use Rattle.text.specs.Read.{read_field_at};
+ghost use Rattle.text.specs.Whole.{read_whole, digit_count, digit_value, digit, leading, shortest, two_digits, padded};
 
+use crate::field::{At, Field, Malformed};
 use crate::put::{Cursor, put_byte};
 use crate::scan::is_end;
 
-// What a text is as a whole number; a malformed one, with the position where it stands.
-#[derive(Clone, Copy)]
-pub enum Whole {
-    Value(u16),
-    Malformed(usize),
-}
-
-// The digits at an index: what they make, and where they end.
-#[derive(Clone, Copy)]
-pub struct Digits {
-    pub value: u16,
-    pub end: usize,
-}
-
-// What a field is as a whole number, and where the field ends. The end of a malformed one is not looked for.
-#[derive(Clone, Copy)]
-pub struct WholeField {
-    pub whole: Whole,
-    pub end: usize,
-}
-
-// Reads the digits that stand at `from`, 4 at most.
-pub fn read_digits(s: &[u8], from: usize) -> Digits
-    requires { from ≤ length s.now }
-    ensures end_value { (result.end ≡ from + digit_count 4 (drop from s.now)) × (result.value ≡ digit_value 4 0 (drop from s.now)) }
-    ensures end_in_bounds { (result.end ≤ length s.now) × (result.value < 10000) }
+// Reads the digits that stand at an index, 4 at most.
+pub fn read_digits(from: At<'_>) -> Field<u16>
+    ensures end_value { (result.end ≡ from.entry.index + digit_count 4 (drop from.entry.index from.entry.text.now)) × (result.value ≡ digit_value 4 0 (drop from.entry.index from.entry.text.now)) }
+    ensures end_in_bounds { (result.end ≤ length from.entry.text.now) × (result.value < 10000) }
 {
-    let room = s.len() - from;
+    let room = from.text.len() - from.index;
     let most = if room < 4 { room } else { 4 };
-    let mut n: u16 = 0;
-    let mut k = 0;
-    while k < most {
-        let b = s[from + k];
-        if b < b'0' {
-            return Digits {
-                value: n,
-                end: from + k,
+    let mut value: u16 = 0;
+    for k in 0..most {
+        let b = from.text[from.index + k];
+        if !b.is_ascii_digit() {
+            return Field {
+                value,
+                end: from.index + k,
             };
         }
-        if b'9' < b {
-            return Digits {
-                value: n,
-                end: from + k,
-            };
-        }
-        let d = b - b'0';
-        n = n * 10 + d as u16;
-        k += 1;
+        value = value * 10 + (b - b'0') as u16;
     }
-    Digits {
-        value: n,
-        end: from + k,
+    Field {
+        value,
+        end: from.index + most,
     }
 }
 
-// Reads the field at `from` as a whole number, byte by byte up to its end; any other text is malformed.
-pub fn read_whole(s: &[u8], from: usize) -> WholeField
-    requires { from ≤ length s.now }
-    ensures whole_value { whole_answer result.whole ≡ read_at from (read_whole (field_at s.now from)) }
-    ensures end_value { (v : ℕ) → result.whole ≡ Value v → result.end ≡ end_at s.now from }
-    ensures end_in_bounds { result.end ≤ length s.now }
+// Reads the field at an index as a whole number, byte by byte up to its end; any other text is malformed.
+pub fn read_whole(from: At<'_>) -> Result<Field<u16>, Malformed>
+    ensures value { result ≡ read_field_at read_whole from.entry.text.now from.entry.index }
+    ensures end_in_bounds { IfOk result (λ f. f.end ≤ length from.entry.text.now) }
 {
-    let digits = read_digits(s, from);
-    let end = digits.end;
-    if end == from {
-        return WholeField {
-            whole: Whole::Malformed(from),
-            end,
-        };
+    let digits = read_digits(from);
+    let end = At {
+        text: from.text,
+        index: digits.end,
+    };
+    if digits.end != from.index && is_end(end) {
+        return Ok(digits);
     }
-    if is_end(s, end) {
-        return WholeField {
-            whole: Whole::Value(digits.value),
-            end,
-        };
-    }
-    WholeField {
-        whole: Whole::Malformed(from),
-        end,
-    }
+    Err(Malformed {
+        position: from.index,
+    })
 }
 
 // Writes the digit of v that counts units of `unit`.

@@ -1,23 +1,12 @@
-use native.Mathlib.Omega.{arith}
-use borrow.Author.Tests.{lt-ltb, le-ltb}
-use Rattle.text.proofs.Laws.{until_hit, until_miss, until_end}
+-- The search that the iterator runs is that of `stray`.
+use Rattle.std.proofs.Common.{rules, tests, ◌∙◌}
+use Rattle.std.proofs.lemmas.Iterator.{YieldsList-from_slice}
+use Rattle.std.proofs.lemmas.Iterator.Search.{position_from_yields_List}
 use Rattle.frame.specs.Frame.{is_stray}
+use Rattle.frame.proofs.Pass.{position_until}
 use Rattle.frame.proofs.reader.find_stray.Goals as goal
 
-pub returns-then-b-lt32 : goal.returns-then-b-lt32
-returns-then-b-lt32 c =
-    record { value = omega (arith, until_hit is_stray c.args.s.now c.loop-i.i (omega arith) (simp (lt-ltb _ _ c.if-b-lt32.true))); upper_bound = omega arith }
-
-pub returns-then-b-gt126 : goal.returns-then-b-gt126
-returns-then-b-gt126 c =
-    let high = lt-ltb _ _ c.if-b-gt126.true in
-    record { value = omega (arith, until_hit is_stray c.args.s.now c.loop-i.i (omega arith) (simp (le-ltb _ _ c.if-b-lt32.false, high))); upper_bound = omega arith }
-
-pub loop-i-preserved : goal.loop-i-preserved
-loop-i-preserved c =
-    let high = le-ltb _ _ c.if-b-gt126.false in
-    omega (arith, until_miss is_stray c.args.s.now c.loop-i.i (omega arith) (simp (le-ltb _ _ c.if-b-lt32.false, high)))
-
-pub returns : goal.returns
-returns c =
-    record { value = omega (arith, until_end is_stray c.args.s.now c.loop-i.i (omega arith)); upper_bound = omega arith }
+pub returns-clause-value : goal.returns-clause-value
+returns-clause-value c =
+    let found = position_from_yields_List is_stray _ _ c.position.result c.position.ensures.ran (YieldsList-from_slice c.args.s.now cc) (λ x b q k. search (rules, tests)) in
+    c.unwrap_or.ensures ∙ rw found (position_until is_stray c.args.s.now)

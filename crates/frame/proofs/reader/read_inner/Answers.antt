@@ -1,28 +1,19 @@
--- Each return goes by the station that was read.
-use mathlib.Core.Path.{refl, sym, ◌∙◌}
-use native.Mathlib.Omega.{arith}
-use Rattle.text.proofs.Laws.{rest}
-use Rattle.frame.specs.Frame.{frame_position}
-use Rattle.frame.proofs.Laws.{answers}
-use Rattle.frame.proofs.Station.{inner_none, inner_some}
+-- The body starts after SP, which follows one digit or two; an accepted frame has position 0.
+use Rattle.std.proofs.Common.{sym, ap}
+use Rattle.frame.specs.Frame.{Reading, frame_position}
+use Rattle.frame.proofs.Station.{one_is, two_is}
 use Rattle.frame.proofs.reader.read_inner.Goals as goal
+use Rattle.frame.proofs.reader.read_inner.Goals.{then-station-lt10, else-station-lt10}
 
-pub returns-then-value-eq0 : goal.returns-then-value-eq0
-unfolding frame_position
-returns-then-value-eq0 c =
-    let read = inner_none c.args.inner.now c.requires.in_bounds.1 (sym c.read_station-value.ensures.value_is ∙ c.if-value-eq0.true) in
-    record { read = rw read (record { number_is = refl; station_is = c.if-value-eq0.true; body_is = refl }); position_value = λ s. refl }
+pub returns-clause-read : goal.returns-clause-read
+returns-clause-read c =
+    let t = c.args.inner.now in
+    let read = c.in-Some.ensures in
+    elim c.if-station-lt10.branch [
+      | then-station-lt10 w ↦ rw w.body-is (sym (one_is t c.requires.1 _ read.value read.positive w.if-station-lt10.true))
+      | else-station-lt10 w ↦ rw w.body-is (sym (two_is t c.requires.1 _ read.value w.if-station-lt10.false))
+    ]
 
-pub returns-then-value-lt10 : goal.returns-then-value-lt10
+pub returns-clause-position_value : goal.returns-clause-position_value
 unfolding frame_position
-returns-then-value-lt10 c =
-    let e = c.read_station-value.ensures.one_digit (omega arith) (omega arith) in
-    let read = inner_some c.args.inner.now c.requires.in_bounds.1 c.read_station-value.result 1 c.read_station-value.ensures.value_is c.if-value-eq0.false e in
-    record { read = rw (read, rest) answers; position_value = λ s. c.requires.position_value }
-
-pub returns : goal.returns
-unfolding frame_position
-returns c =
-    let e = c.read_station-value.ensures.two_digits (omega arith) in
-    let read = inner_some c.args.inner.now c.requires.in_bounds.1 c.read_station-value.result 2 c.read_station-value.ensures.value_is c.if-value-eq0.false e in
-    record { read = rw (read, rest) answers; position_value = λ s. c.requires.position_value }
+returns-clause-position_value c s = ap (λ (o : Reading). frame_position s o.number) (returns-clause-read c)

@@ -1,29 +1,24 @@
-use Prim.Native.Nat.{ℕ, suc, ◌+◌, ◌-◌}
-use mathlib.Core.Path.{◌≡◌, sym, ◌∙◌}
+use Prim.Native.Nat.{ℕ, ◌+◌, ◌-◌}
+use mathlib.Core.Path.{◌≡◌, ap}
 use native.Mathlib.Omega.{arith}
-use Rattle.programs.specs.Memory.{packed_at}
-use Rattle.programs.proofs.Laws.{pack_at_none, pack_at_more, pack_at_small}
+use lib.ListN.{take, drop}
+use Rattle.programs.proofs.Laws.{read_none, read_all, read_small, read_more}
 use Rattle.programs.proofs.memory.text_at.Goals as goal
 
-pub loop-left-init : goal.loop-left-init
-loop-left-init c =
-    (omega arith, sym (pack_at_none _ _))
+pub loop-b-init : goal.loop-b-init
+loop-b-init c =
+    let k : c.args.at + 8 - c.args.at ≡ 8 = omega arith in
+    let e = ap (λ (n : ℕ). take n (drop c.args.at c.args.programs.now)) k in
+    read_none c.args.programs.now c.args.at _ c.requires cc
 
 pub added-n-requires : goal.added-n-requires
 added-n-requires c =
-    omega (arith, c.loop-left.invariant.1, pack_at_small c.args.programs.now (8 - c.loop-left.left) (c.args.at + c.loop-left.left) (omega arith))
+    read_small c.loop-b.invariant _ _ c.in-Some.ensures.steps
 
-pub loop-left-preserved : goal.loop-left-preserved
-loop-left-preserved c =
-    let i : ℕ = c.loop-left.left - 1 in
-    let p : suc (c.args.at + i) ≡ c.args.at + c.loop-left.left = omega arith in
-    let q : 8 - i ≡ suc (8 - c.loop-left.left) = omega arith in
-    (omega arith, c.added-n.ensures ∙ sym (rw q (pack_at_more c.args.programs.now (8 - c.loop-left.left) (c.args.at + i) ∙ rw (p, ← c.loop-left.invariant.1))))
+pub loop-b-preserved : goal.loop-b-preserved
+loop-b-preserved c =
+    rw c.added-n.ensures (read_more c.loop-b.invariant _ _ c.in-Some.ensures.steps)
 
 pub returns : goal.returns
-unfolding packed_at
 returns c =
-    let z : c.loop-left.left ≡ 0 = omega arith in
-    let q : 8 - c.loop-left.left ≡ 8 = omega arith in
-    let p : c.args.at + c.loop-left.left ≡ c.args.at = omega arith in
-    c.loop-left.invariant.1 ∙ rw (q, p)
+    read_all c.loop-b.invariant c.in-None.ensures.steps.0

@@ -1,11 +1,8 @@
-use Prim.Native.Nat.{◌+◌, ◌-◌, ◌≤◌}
-use mathlib.Core.Path.{◌≡◌}
-use Rattle.steps.specs.Text.{pack}
-use Rattle.programs.specs.Memory.{chars_at}
+-- The invariant: n packs the characters at the front of the bytes that the iterator has passed.
+use Rattle.std.specs.Iterator.Adapters.{rev_source}
+use Rattle.std.specs.Slice.Iter.{iter_rest}
+use Rattle.programs.proofs.Laws.{Read}
 use Rattle.programs.proofs.memory.text_at.Given as goal
 
-abbrev pub invariant-loop-left : goal.invariant-loop-left
-invariant-loop-left l = (l.left ≤ 8) × (l.n ≡ pack (chars_at (8 - l.left) l.programs (l.at + l.left)))
-
-abbrev pub decreases-loop-left : goal.decreases-loop-left
-decreases-loop-left l = l.left
+abbrev pub invariant-loop-b : goal.invariant-loop-b
+invariant-loop-b l = Read l.programs l.at (iter_rest (rev_source l.b-iterator)) l.n

@@ -1,4 +1,5 @@
-use Prim.Native.Nat.{◌-◌, ◌≤◌, ◌<◌}
+-- The invariant: the bytes passed are taken, and the rest is left to take.
+use Prim.Native.Nat.{◌<◌}
 use mathlib.Core.Path.{◌≡◌}
 use lib.ListN.{length, take, drop}
 use Rattle.receiver.specs.Receive.{taken}
@@ -6,7 +7,9 @@ use Rattle.receiver.proofs.Steps.{Going}
 use Rattle.receiver.proofs.receive.take_arrived.Given as goal
 
 abbrev pub invariant-loop-i : goal.invariant-loop-i
-invariant-loop-i l = (l.i ≤ length l.arrived) × ((l.n < 255) × ((length l.held ≡ 255) × ((l.area ≡ l.initial.area) × Going (taken l.initial.held (take l.initial.n l.initial.held) l.arrived) l.i (taken l.held (take l.n l.held) (drop l.i l.arrived)))))
-
-abbrev pub decreases-loop-i : goal.decreases-loop-i
-decreases-loop-i l = length l.arrived - l.i
+invariant-loop-i l = record {
+  fits : l.n < 255;
+  long : length l.held ≡ 255;
+  area_is : l.area ≡ l.initial.area;
+  going : Going (taken l.initial.held (take l.initial.n l.initial.held) l.arrived) l.i (taken l.held (take l.n l.held) (drop l.i l.arrived));
+}

@@ -1,49 +1,32 @@
-use Prim.Native.Nat.{ℕ, ◌%◌}
-use mathlib.Core.Path.{◌≡◌, ap, ◌∙◌}
+use Prim.Native.Nat.{ℕ}
+use mathlib.Core.Path.{sym, ap, ◌∙◌}
 use mathlib.Core.List.{[], ◌∷◌}
 use native.Mathlib.Omega.{arith}
-use lib.ListN.{length, length-set}
+use lib.ListN.{length, get_or, length-set}
 use Rattle.text.proofs.Parts.{begun, moved, done, put_one}
-use Rattle.steps.specs.Text.{chars_in}
-use Rattle.steps.proofs.Laws.{char, low, high, chars_none, chars_stop, chars_more}
+use Rattle.steps.proofs.Laws.{leading, leading_none, leading_stop, leading_more, leading_le}
 use Rattle.steps.proofs.texts.put_text.Goals as goal
 
-pub loop-left-init : goal.loop-left-init
-loop-left-init c =
-    begun
+pub loop-b-init : goal.loop-b-init
+loop-b-init c =
+    let e = ap leading c.to_le_bytes-b-items.ensures ∙ leading_le c.args.t.0 in
+    rw e begun
 
-pub shape_of-area-then-b-lt33 : goal.shape_of-area-then-b-lt33
-shape_of-area-then-b-lt33 c =
-    c.loop-left.invariant.size
-
-pub returns-then-b-lt33 : goal.returns-then-b-lt33
-returns-then-b-lt33 c =
-    done (rw (chars_stop c.loop-left.left c.loop-left.rest (low _ c.if-b-lt33.true)) at c.loop-left.invariant)
-
-pub shape_of-area-then-b-gt126 : goal.shape_of-area-then-b-gt126
-shape_of-area-then-b-gt126 c =
-    c.loop-left.invariant.size
-
-pub returns-then-b-gt126 : goal.returns-then-b-gt126
-returns-then-b-gt126 c =
-    done (rw (chars_stop c.loop-left.left c.loop-left.rest (high _ c.if-b-gt126.true)) at c.loop-left.invariant)
+pub returns-then-not-is_char : goal.returns-then-not-is_char
+returns-then-not-is_char c =
+    done (rw (leading_stop c.to_le_bytes-b-items.result c.loop-b.b-index (omega arith) (sym c.is_char.ensures ∙ c.if-not-is_char.true)) at c.loop-b.invariant)
 
 pub bounds-area-at : goal.bounds-area-at
 bounds-area-at c =
-    let e = chars_more c.loop-left.left c.loop-left.rest (omega arith) (char _ c.if-b-lt33.false c.if-b-gt126.false) in
-    omega (arith, ap length e, c.loop-left.invariant.next, c.loop-left.invariant.size)
+    let e = leading_more c.to_le_bytes-b-items.result c.loop-b.b-index (omega arith) (sym c.is_char.ensures ∙ c.if-not-is_char.false) in
+    omega (arith, ap length e, c.loop-b.invariant.next, c.loop-b.invariant.size)
 
-pub loop-left-preserved : goal.loop-left-preserved
-loop-left-preserved c =
-    let e = chars_more c.loop-left.left c.loop-left.rest (omega arith) (char _ c.if-b-lt33.false c.if-b-gt126.false) in
-    moved (c.loop-left.rest % 256 ∷ []) (rw e at c.loop-left.invariant) (put_one _ _ _ _) (length-set c.loop-left.area c.loop-left.at (c.loop-left.rest % 256))
-
-pub shape_of-area : goal.shape_of-area
-shape_of-area c =
-    c.loop-left.invariant.size
+pub loop-b-preserved : goal.loop-b-preserved
+loop-b-preserved c =
+    let b : ℕ = get_or c.to_le_bytes-b-items.result c.loop-b.b-index 0 in
+    let e = leading_more c.to_le_bytes-b-items.result c.loop-b.b-index (omega arith) (sym c.is_char.ensures ∙ c.if-not-is_char.false) in
+    moved (b ∷ []) (rw e at c.loop-b.invariant) (put_one _ _ _ _) (length-set c.loop-b.area c.loop-b.at b)
 
 pub returns : goal.returns
 returns c =
-    let z : c.loop-left.left ≡ 0 = omega arith in
-    let e = ap (λ (k : ℕ). chars_in k c.loop-left.rest) z ∙ chars_none c.loop-left.rest in
-    done (rw e at c.loop-left.invariant)
+    done (rw (leading_none c.to_le_bytes-b-items.result c.loop-b.b-index (omega arith)) at c.loop-b.invariant)

@@ -25,10 +25,10 @@ put_sign-digits-requires c =
 
 pub put_magnitude-requires : goal.put_magnitude-requires
 put_magnitude-requires c =
-    let m : c.unsigned_abs-m.result ≡ nat_abs c.args.v = c.unsigned_abs-m.ensures ∙ ap nat_abs (to_z-of_z c.ranges.v) in
+    let m : c.unsigned_abs-m.result ≡ nat_abs c.args.v = c.unsigned_abs-m.ensures.value ∙ ap nat_abs (to_z-of_z c.ranges.v) in
     rw m (omega (arith, ap length (text_is c.args.v), length-append (sign (lt_z c.args.v (pos 0))) (magnitude_text (nat_abs c.args.v)), c.put_sign-digits.auto.area, rw (to_z-of_z c.ranges.v) at c.put_sign-digits.ensures.next))
 
 pub returns : goal.returns
 returns c =
-    let m : c.unsigned_abs-m.result ≡ nat_abs c.args.v = c.unsigned_abs-m.ensures ∙ ap nat_abs (to_z-of_z c.ranges.v) in
+    let m : c.unsigned_abs-m.result ≡ nat_abs c.args.v = c.unsigned_abs-m.ensures.value ∙ ap nat_abs (to_z-of_z c.ranges.v) in
     rw (text_is c.args.v, ← m) (put_then (rw (to_z-of_z c.ranges.v) at c.put_sign-digits.ensures) c.put_magnitude.ensures)

@@ -1,43 +1,56 @@
-use Prim.Native.Nat.{ℕ, ◌^◌, ◌<◌}
-use mathlib.Core.Path.{◌≡◌, refl, sym, ap, subst}
-use native.Mathlib.Omega.{arith}
-use lib.ListN.{length, drop}
-use Rattle.text.specs.Read.{read_at}
+use Rattle.std.proofs.Common.{◌≡◌, ℕ, ◌+◌, ◌^◌, ◌<◌, List, Ok, length, drop, refl, subst, arith}
+use Rattle.text.specs.declared.field.Field.{Field}
 use Rattle.text.specs.Scan.{field_at}
+use Rattle.text.specs.Read.{read_field_at}
 use Rattle.text.specs.Whole.{read_whole}
+use Rattle.text.specs.Hundredths.{decimals}
 use Rattle.text.proofs.Decimals.{Below, whole_below}
-use Rattle.text.proofs.Fields.{part_length, decimals_none, decimals_one, decimals_two, decimals_more, no_whole}
-use Rattle.text.proofs.Read.{was_read, was_wrong}
+use Rattle.text.proofs.Fields.{part_length, decimals_none, decimals_one, decimals_two, decimals_more}
+use Rattle.text.proofs.Read.{field_read, field_wrong, value_with, none_with}
 use Rattle.text.proofs.hundredths.read_decimals.Goals as goal
+
+-- what the field at i is, where it was read as the digits d
+module _ (s : List ℕ) (i : ℕ) {d : Field ℕ} (e : Ok d ≡ read_field_at read_whole s i) where
+  size : i + length (field_at s i) ≡ d.end
+  size = omega (arith, part_length 32 refl (drop i s), (field_read read_whole s i e).1)
+
+  small : length (field_at s i) ≡ 1 → d.value < 10
+  small l =
+      let b : d.value < 10 ^ length (field_at s i) = subst (Below (10 ^ length (field_at s i))) (field_read read_whole s i e).0 (whole_below (field_at s i)) in
+      omega (arith, subst (λ (n : ℕ). d.value < 10 ^ n) l b)
 
 pub returns-in_default : goal.returns-in_default
 returns-in_default c =
-    let f = field_at c.args.s.now c.args.from in
-    record { whole_value = ap (read_at c.args.from) (sym (decimals_none f (was_wrong _ _ (rw c.in_default.is at c.read_whole-read.ensures.whole_value)).0)); end_value = λ v e. no_whole e }
+    let s = c.args.from.text.now in
+    let i = c.args.from.index in
+    none_with decimals s i (decimals_none (field_at s i) (field_wrong read_whole s i c.in_default.ensures.value).0)
 
 pub overflow_mul-result : goal.overflow_mul-result
 overflow_mul-result c =
-    let f = field_at c.args.s.now c.args.from in
-    let l : length f ≡ 1 = omega (arith, part_length 32 refl (drop c.args.from c.args.s.now), c.read_whole-read.ensures.end_value _ c.in-Value.is) in
-    let b : c.in-Value.v < 10 ^ length f = subst (Below (10 ^ length f)) (was_read _ (read_whole f) (rw c.in-Value.is at c.read_whole-read.ensures.whole_value)) (whole_below f) in
-    omega (arith, subst (λ (n : ℕ). c.in-Value.v < 10 ^ n) l b)
+    let e = c.in-Ok.ensures.value in
+    let l = size c.args.from.text.now c.args.from.index e in
+    omega (arith, small c.args.from.text.now c.args.from.index e (omega arith))
 
-pub returns-then-end-from : goal.returns-then-end-from
-returns-then-end-from c =
-    let end = c.read_whole-read.ensures.end_value _ c.in-Value.is in
-    let f = field_at c.args.s.now c.args.from in
-    let l : length f ≡ 1 = omega (arith, part_length 32 refl (drop c.args.from c.args.s.now), end) in
-    record { whole_value = ap (read_at c.args.from) (sym (decimals_one f (was_read _ _ (rw c.in-Value.is at c.read_whole-read.ensures.whole_value)) l)); end_value = λ v e. end }
+pub returns-in-1 : goal.returns-in-1
+returns-in-1 c =
+    let s = c.args.from.text.now in
+    let i = c.args.from.index in
+    let l = size s i c.in-Ok.ensures.value in
+    let r = field_read read_whole s i c.in-Ok.ensures.value in
+    value_with decimals s i (decimals_one (field_at s i) r.0 (omega arith)) r.1
 
-pub returns-then-end-from-2 : goal.returns-then-end-from-2
-returns-then-end-from-2 c =
-    let end = c.read_whole-read.ensures.end_value _ c.in-Value.is in
-    let f = field_at c.args.s.now c.args.from in
-    let l : length f ≡ 2 = omega (arith, part_length 32 refl (drop c.args.from c.args.s.now), end) in
-    record { whole_value = ap (read_at c.args.from) (sym (decimals_two f (was_read _ _ (rw c.in-Value.is at c.read_whole-read.ensures.whole_value)) l)); end_value = λ v e. end }
+pub returns-in-2 : goal.returns-in-2
+returns-in-2 c =
+    let s = c.args.from.text.now in
+    let i = c.args.from.index in
+    let l = size s i c.in-Ok.ensures.value in
+    let r = field_read read_whole s i c.in-Ok.ensures.value in
+    value_with decimals s i (decimals_two (field_at s i) r.0 (omega arith)) r.1
 
-pub returns : goal.returns
-returns c =
-    let end = c.read_whole-read.ensures.end_value _ c.in-Value.is in
-    let l = part_length 32 refl (drop c.args.from c.args.s.now) in
-    record { whole_value = ap (read_at c.args.from) (sym (decimals_more (field_at c.args.s.now c.args.from) (was_read _ _ (rw c.in-Value.is at c.read_whole-read.ensures.whole_value)) (λ z. c.if-end-from.false (omega (arith, z, l, end))) (λ z. c.if-end-from-2.false (omega (arith, z, l, end))))); end_value = λ v e. no_whole e }
+pub returns-in_default-2 : goal.returns-in_default-2
+returns-in_default-2 c =
+    let s = c.args.from.text.now in
+    let i = c.args.from.index in
+    let l = size s i c.in-Ok.ensures.value in
+    let r = field_read read_whole s i c.in-Ok.ensures.value in
+    none_with decimals s i (decimals_more (field_at s i) r.0 (λ z. omega arith) (λ z. omega arith))

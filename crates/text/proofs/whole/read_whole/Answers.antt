@@ -1,25 +1,29 @@
 use Prim.Native.Nat.{◌+◌}
 use mathlib.Core.Path.{refl, sym, ap, ◌∙◌}
+use Rattle.std.specs.Prelude.{Some}
 use native.Mathlib.Omega.{arith}
 use lib.ListN.{drop}
-use Rattle.text.specs.Read.{value, read_at}
-use Rattle.text.specs.Whole.{digit_count}
-use Rattle.text.proofs.Fields.{end_test, some_digits, digits_end, whole_read, whole_other, whole_none, no_whole}
+use Rattle.text.specs.Whole.{read_whole, digit_count}
+use Rattle.text.proofs.Read.{value_at, wrong_at}
+use Rattle.text.proofs.Fields.{end_test, some_digits, digits_end, whole_read, whole_other, whole_none}
 use Rattle.text.proofs.whole.read_whole.Goals as goal
+use Rattle.text.proofs.whole.read_whole.Goals.{else-digits-from-via-then-digits-from+else-is_end, else-digits-from-via-else-digits-from}
 
-pub returns-then-end-from : goal.returns-then-end-from
-returns-then-end-from c =
-    let t = drop c.args.from c.args.s.now in
-    record { whole_value = ap (read_at c.args.from) (sym (whole_none 32 refl t (omega (arith, c.read_digits-digits.ensures.end_value.0)))); end_value = λ v e. no_whole e; end_in_bounds = c.read_digits-digits.ensures.end_in_bounds.0 }
+pub returns-then-is_end-clause-value : goal.returns-then-is_end-clause-value
+returns-then-is_end-clause-value c =
+    let t = drop c.args.from.index c.args.from.text.now in
+    let n = c.read_digits-digits.ensures.end_value in
+    let e = end_test c.args.from.text.now c.args.from.index (digit_count 4 t) n.0 c.is_end.ensures ∙ c.if-is_end.true in
+    value_at read_whole c.args.from.text.now c.args.from.index
+    (whole_read 32 refl t (some_digits c.args.from.index _ n.0 c.if-digits-from.true) e ∙ ap Some (sym n.1))
+    (n.0 ∙ ap (λ m. c.args.from.index + m) (sym (digits_end 32 refl t e)))
 
-pub returns-then-is_end : goal.returns-then-is_end
-returns-then-is_end c =
-    let t = drop c.args.from c.args.s.now in
-    let e = end_test c.args.s.now c.args.from (digit_count 4 t) c.read_digits-digits.ensures.end_value.0 c.is_end.ensures ∙ c.if-is_end.true in
-    record { whole_value = ap value c.read_digits-digits.ensures.end_value.1 ∙ ap (read_at c.args.from) (sym (whole_read 32 refl t (some_digits c.args.from _ c.read_digits-digits.ensures.end_value.0 c.if-end-from.false) e)); end_value = λ v _. c.read_digits-digits.ensures.end_value.0 ∙ ap (λ m. c.args.from + m) (sym (digits_end 32 refl t e)); end_in_bounds = c.read_digits-digits.ensures.end_in_bounds.0 }
-
-pub returns : goal.returns
-returns c =
-    let t = drop c.args.from c.args.s.now in
-    let e = end_test c.args.s.now c.args.from (digit_count 4 t) c.read_digits-digits.ensures.end_value.0 c.is_end.ensures ∙ c.if-is_end.false in
-    record { whole_value = ap (read_at c.args.from) (sym (whole_other 32 refl t e)); end_value = λ v e. no_whole e; end_in_bounds = c.read_digits-digits.ensures.end_in_bounds.0 }
+pub returns-clause-value : goal.returns-clause-value
+returns-clause-value c =
+    let t = drop c.args.from.index c.args.from.text.now in
+    let n = c.read_digits-digits.ensures.end_value in
+    wrong_at read_whole c.args.from.text.now c.args.from.index
+    (elim c.else-digits-from.branch [
+      | else-digits-from-via-then-digits-from+else-is_end w ↦ whole_other 32 refl t (end_test c.args.from.text.now c.args.from.index (digit_count 4 t) n.0 w.is_end.ensures ∙ w.if-is_end.false)
+      | else-digits-from-via-else-digits-from w ↦ whole_none 32 refl t (omega arith)
+    ])

@@ -1,0 +1,76 @@
+// The refusals of document 01 ("Refusal numbers, in the order checked") and of document 02.
+ghost use Rattle.std.specs.Prelude.{◌≡◌};
+ghost use Rattle.refusals.specs.Refusal.{number_of, refused_at};
+
+// Why a call is refused, in the order of the numbers.
+#[derive(Clone, Copy, Debug, PartialEq, Eq)]
+pub enum Refusal {
+    Room,
+    Length,
+    Start,
+    End,
+    Lrc,
+    Stray,
+    Station,
+    Absent,
+    Command,
+    Shape,
+    Number,
+    Value,
+    Setup,
+    Input,
+    Reply,
+    Empty,
+    Idle,
+}
+
+impl Refusal {
+    // The number that a program in C gets, and that a reply carries.
+    pub fn number(self) -> u8
+        ensures { result ≡ number_of self }
+    {
+        match self {
+            Refusal::Room => 1,
+            Refusal::Length => 2,
+            Refusal::Start => 3,
+            Refusal::End => 4,
+            Refusal::Lrc => 5,
+            Refusal::Stray => 6,
+            Refusal::Station => 7,
+            Refusal::Absent => 8,
+            Refusal::Command => 9,
+            Refusal::Shape => 10,
+            Refusal::Number => 11,
+            Refusal::Value => 12,
+            Refusal::Setup => 13,
+            Refusal::Input => 14,
+            Refusal::Reply => 15,
+            Refusal::Empty => 16,
+            Refusal::Idle => 17,
+        }
+    }
+}
+
+// Why a slice is refused, and the position where it is wrong; 0 where there is none to tell.
+#[derive(Clone, Copy, Debug, PartialEq, Eq)]
+pub struct Refused {
+    pub refusal: Refusal,
+    pub position: usize,
+}
+
+impl Refused {
+    // A refusal at a position.
+    pub fn at(refusal: Refusal, position: usize) -> Refused
+        ensures { result ≡ refused_at refusal position }
+    {
+        Refused { refusal, position }
+    }
+}
+
+impl From<Refusal> for Refused {
+    ghost from_gives = { λ refusal refused. refused ≡ refused_at refusal 0 };
+
+    fn from(refusal: Refusal) -> Refused {
+        Refused::at(refusal, 0)
+    }
+}
