@@ -4,7 +4,7 @@ use mathlib.Core.Path.{◌≡◌, refl, sym}
 use mathlib.Core.Bool.{Bool, true, false, cond, not}
 use mathlib.Core.List.{List, [], ◌∷◌, map}
 use mathlib.Core.Logic.{inl, inr}
-use mathlib.Core.Option.{Option, none, some}
+use Rattle.std.specs.Prelude.{Option, None, Some}
 use native.Mathlib.Omega.{arith}
 use lib.Dec.{eqb}
 use lib.ListN.{length, drop}
@@ -14,8 +14,6 @@ use Rattle.frame.specs.Frame.{read_frame, body_start}
 use Rattle.frame.proofs.Placed.{Pointed, offending_next, body_place, body_fields, body_offends}
 use Rattle.names.specs.declared.command.Command.{Command}
 use Rattle.commands.specs.declared.table.Form.{Form}
-use Rattle.names.specs.declared.command.Named.{Named}
-use Rattle.names.specs.declared.command.Named.TheVariants.{Is, Unknown}
 use Rattle.commands.specs.declared.table.Rule.{Rule}
 use Rattle.commands.specs.declared.request.Payload.{Payload}
 use Rattle.names.specs.Command.{command_of}
@@ -35,13 +33,13 @@ abbrev pub texts : List Placed → List (List ℕ)
 texts = map (λ f. f.text)
 
 -- data out of range start the fields that are left; an LN has none
-data_out : (etx : ℕ) (t : Bool) (f : Form) (fs : List Placed) {p : Payload} → data_shape t f (texts fs) ≡ some p → cond t (in_ranges f p) true ≡ false → offending etx (cond t (data_ranges f) []) fs ≡ start_of etx fs
+data_out : (etx : ℕ) (t : Bool) (f : Form) (fs : List Placed) {p : Payload} → data_shape t f (texts fs) ≡ Some p → cond t (in_ranges f p) true ≡ false → offending etx (cond t (data_ranges f) []) fs ≡ start_of etx fs
 data_out etx true f fs e z = out_of_range etx f fs e z
 data_out etx false f fs e z = false_true (sym z)
 
 module _ (etx : ℕ) (rule : Rule) {n : ℕ} {r : Payload} where
   -- the number is the first field
-  pub number_at : (fs : List Placed) → read_shape rule (texts fs) ≡ some (n, r) → outside rule n ≡ true → offending etx (ranges rule) fs ≡ start_of etx fs
+  pub number_at : (fs : List Placed) → read_shape rule (texts fs) ≡ Some (n, r) → outside rule n ≡ true → offending etx (ranges rule) fs ≡ start_of etx fs
   unfolding read_shape
   number_at [] e z = no_some e
   number_at (f ∷ fs) e z =
@@ -49,7 +47,7 @@ module _ (etx : ℕ) (rule : Rule) {n : ℕ} {r : Payload} where
       rw (offending_next etx (λ s. reads_as (λ m. not (outside rule m)) (read_whole s)) (cond rule.store (data_ranges rule.form) []) f fs, b.0, z)
 
   -- the data are those after it
-  pub data_at : (fs : List Placed) → read_shape rule (texts fs) ≡ some (n, r) → outside rule n ≡ false → data_fit rule r ≡ false → offending etx (ranges rule) fs ≡ start_of etx (drop 1 fs)
+  pub data_at : (fs : List Placed) → read_shape rule (texts fs) ≡ Some (n, r) → outside rule n ≡ false → data_fit rule r ≡ false → offending etx (ranges rule) fs ≡ start_of etx (drop 1 fs)
   unfolding read_shape
   data_at [] e o z = no_some e
   data_at (f ∷ fs) e o z =
@@ -85,16 +83,16 @@ judged_number c n r = go (outside (rule_of c) n) (data_fit (rule_of c) r)
     go false false = (omega arith, omega arith)
 
 shape_number : (c : Command) (o : Option (ℕ × Payload)) → Numbered (shaped c o)
-shape_number c (some p) = judged_number c p.0 p.1
-shape_number c none = (omega arith, omega arith)
+shape_number c (Some p) = judged_number c p.0 p.1
+shape_number c None = (omega arith, omega arith)
 
 pub body_number : (s : List ℕ) → Numbered (read_body s)
 unfolding read_body fields
 body_number s = go (command_of (first s))
   where
-    go : (c : Named) → Numbered (after_name c (more s))
-    go (Is c) = shape_number c (read_shape (rule_of c) (more s))
-    go Unknown = (omega arith, omega arith)
+    go : (c : Option Command) → Numbered (after_name c (more s))
+    go (Some c) = shape_number c (read_shape (rule_of c) (more s))
+    go None = (omega arith, omega arith)
 
 -- and it is wrong where a field of it starts, or at ETX
 pub body_pointed : (s : List ℕ) (n : ℕ) → (read_frame s).number ≡ 0 → Pointed s (body_position s n)
@@ -103,7 +101,7 @@ body_pointed s n e =
     let p = body_place s e in
     rw p.fields_are (go (eqb n 9) (command_of (first (read_frame s).body)))
   where
-    go : (t : Bool) (c : Named) → Pointed s (cond t (body_start s) (after_name_position (length s - 2) c (placed_more (body_start s) (read_frame s).body) n))
+    go : (t : Bool) (c : Option Command) → Pointed s (cond t (body_start s) (after_name_position (length s - 2) c (placed_more (body_start s) (read_frame s).body) n))
     go true c = let f = (body_fields s e).0 in (f.0, (f.1.0, inr f.1.1))
-    go false (Is c) = body_offends s e 1 (cond (eqb n 10) (forms (rule_of c)) (ranges (rule_of c)))
-    go false Unknown = (omega arith, (omega arith, inl refl))
+    go false (Some c) = body_offends s e 1 (cond (eqb n 10) (forms (rule_of c)) (ranges (rule_of c)))
+    go false None = (omega arith, (omega arith, inl refl))

@@ -3,7 +3,7 @@ use Prim.Native.Nat.{ℕ}
 use mathlib.Core.Path.{◌≡◌, refl, ap, ◌∙◌}
 use mathlib.Core.Bool.{Bool, true, false}
 use mathlib.Core.List.{List, [], ◌∷◌}
-use mathlib.Core.Option.{Option, none, some, map}
+use Rattle.std.specs.Prelude.{Option, None, Some, option_map}
 use native.Mathlib.Omega.{arith}
 use Rattle.text.specs.Whole.{read_whole}
 use Rattle.steps.specs.declared.step.Step.{Step}
@@ -80,26 +80,26 @@ stores_texts Snbd e f = no_texts f
 stores_texts Lna e f = false_true e
 stores_texts Sna e f = refl
 
-texts_read : (t : Bool) (f : Form) (fs : List (List ℕ)) {s : Step} → data_shape t f fs ≡ some (payload.Texts s) → ((t ≡ true) × (f ≡ Texts)) × (is_step s ≡ true)
+texts_read : (t : Bool) (f : Form) (fs : List (List ℕ)) {s : Step} → data_shape t f fs ≡ Some (payload.Texts s) → ((t ≡ true) × (f ≡ Texts)) × (is_step s ≡ true)
 texts_read true (Numbers k) fs {s} e = go (read_numbers k fs) e
   where
-    go : (o : Option Row) → map payload.Numbers o ≡ some (payload.Texts s) → ((true ≡ true) × (Numbers k ≡ Texts)) × (is_step s ≡ true)
-    go (some r) d = let z : ◌≡◌ {A = ℕ} 0 1 = cc in absurd (omega arith)
-    go none d = no_some d
+    go : (o : Option Row) → option_map payload.Numbers o ≡ Some (payload.Texts s) → ((true ≡ true) × (Numbers k ≡ Texts)) × (is_step s ≡ true)
+    go (Some r) d = let z : ◌≡◌ {A = ℕ} 0 1 = cc in absurd (omega arith)
+    go None d = no_some d
 texts_read true Texts fs {s} e = go (read_step fs) refl e
   where
-    go : (o : Option Step) → read_step fs ≡ o → map payload.Texts o ≡ some (payload.Texts s) → ((true ≡ true) × (Texts ≡ Texts)) × (is_step s ≡ true)
-    go (some q) d w = let same : q ≡ s = cc in ((refl, refl), read_is_step fs s (d ∙ ap some same))
-    go none d w = no_some w
+    go : (o : Option Step) → read_step fs ≡ o → option_map payload.Texts o ≡ Some (payload.Texts s) → ((true ≡ true) × (Texts ≡ Texts)) × (is_step s ≡ true)
+    go (Some q) d w = let same : q ≡ s = cc in ((refl, refl), read_is_step fs s (d ∙ ap Some same))
+    go None d w = no_some w
 texts_read false f [] e = let z : ◌≡◌ {A = ℕ} 0 1 = cc in absurd (omega arith)
 texts_read false f (g ∷ fs) e = no_some e
 
-pub both : (o : Option ℕ) (v : Option Payload) {p : ℕ × Payload} → numbered o v ≡ some p → (o ≡ some p.0) × (v ≡ some p.1)
-both (some n) (some r) e = (ap some cc, ap some cc)
-both (some n) none e = no_some e
-both none v e = no_some e
+pub both : (o : Option ℕ) (v : Option Payload) {p : ℕ × Payload} → numbered o v ≡ Some p → (o ≡ Some p.0) × (v ≡ Some p.1)
+both (Some n) (Some r) e = (ap Some cc, ap Some cc)
+both (Some n) None e = no_some e
+both None v e = no_some e
 
-pub reads_texts : (c : Command) (fs : List (List ℕ)) {n : ℕ} {s : Step} → read_shape (rule_of c) fs ≡ some (n, payload.Texts s) → (c ≡ Sna) × (is_step s ≡ true)
+pub reads_texts : (c : Command) (fs : List (List ℕ)) {n : ℕ} {s : Step} → read_shape (rule_of c) fs ≡ Some (n, payload.Texts s) → (c ≡ Sna) × (is_step s ≡ true)
 unfolding read_shape
 reads_texts c [] e = no_some e
 reads_texts c (f ∷ fs) e =

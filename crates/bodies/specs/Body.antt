@@ -1,11 +1,8 @@
 -- The body of a request (document 01, "Commands" and refusals 9 to 12).
-use Rattle.std.specs.Prelude.{ℕ, Bool, true, false, cond, List, [], ◌∷◌, ◌++◌, eqb}
-use Rattle.std.proofs.Math.Option.{Option, none, some}
+use Rattle.std.specs.Prelude.{ℕ, Bool, true, false, cond, List, [], ◌∷◌, ◌++◌, eqb, Option, None, Some}
 use Rattle.text.specs.Whole.{read_whole, shortest}
 use Rattle.frame.specs.Fields.{fields}
 use Rattle.names.specs.declared.command.Command.{Command}
-use Rattle.names.specs.declared.command.Named.{Named}
-use Rattle.names.specs.declared.command.Named.TheVariants.{Is, Unknown}
 use Rattle.commands.specs.declared.table.Form.{Form}
 use Rattle.commands.specs.declared.table.Rule.{Rule}
 use Rattle.commands.specs.declared.request.Payload.{Payload}
@@ -27,17 +24,17 @@ pub data Judged : Type 0 where
 -- the fields after the number: data for an SN, none for an LN
 abbrev pub data_shape : Bool → Form → List (List ℕ) → Option Payload
 data_shape true f fs = read_data f fs
-data_shape false f [] = some payload.None
-data_shape false f (g ∷ fs) = none
+data_shape false f [] = Some payload.None
+data_shape false f (g ∷ fs) = None
 
 abbrev pub numbered : Option ℕ → Option Payload → Option (ℕ × Payload)
-numbered (some n) (some p) = some (n, p)
-numbered (some n) none = none
-numbered none p = none
+numbered (Some n) (Some p) = Some (n, p)
+numbered (Some n) None = None
+numbered None p = None
 
 -- the fields after the name: the number, then the data
 unfoldable pub read_shape : Rule → List (List ℕ) → Option (ℕ × Payload)
-read_shape rule [] = none
+read_shape rule [] = None
 read_shape rule (n ∷ fs) = numbered (read_whole n) (data_shape rule.store rule.form fs)
 
 -- numbers as the data of an SN; an LN has none
@@ -52,13 +49,13 @@ request_or_refusal c n p =
 
 -- 10 SHAPE, then those
 abbrev pub shaped : Command → Option (ℕ × Payload) → Judged
-shaped c (some p) = request_or_refusal c p.0 p.1
-shaped c none = Refused 10 (rule_of c).store
+shaped c (Some p) = request_or_refusal c p.0 p.1
+shaped c None = Refused 10 (rule_of c).store
 
 -- 9 COMMAND, then those
-abbrev pub after_name : Named → List (List ℕ) → Judged
-after_name (Is c) fs = shaped c (read_shape (rule_of c) fs)
-after_name Unknown fs = Refused 9 false
+abbrev pub after_name : Option Command → List (List ℕ) → Judged
+after_name (Some c) fs = shaped c (read_shape (rule_of c) fs)
+after_name None fs = Refused 9 false
 
 abbrev pub of_fields : List (List ℕ) → Judged
 of_fields [] = Refused 9 false

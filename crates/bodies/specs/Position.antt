@@ -1,12 +1,11 @@
 -- Where the body of a slice is wrong (document 02, E9): the position of refusals 9 to 12, an offset in the slice.
-use Rattle.std.specs.Prelude.{ℕ, ◌-◌, Bool, true, cond, not, List, [], ◌∷◌, eqb, length, drop}
-use Rattle.std.proofs.Math.Option.{Option, map}
-use Rattle.text.specs.Read.{Read, value, wrong, read_at}
+use Rattle.std.specs.Prelude.{ℕ, ◌-◌, Bool, true, cond, not, List, [], ◌∷◌, eqb, length, drop, Option, None, Some, Result, Ok, Err, option_map}
+use Rattle.text.specs.Read.{Read, read_at}
 use Rattle.text.specs.Whole.{read_whole}
 use Rattle.frame.specs.Fields.{fields, Placed, placed, reads_as, start_of, offending}
 use Rattle.frame.specs.Frame.{inner}
-use Rattle.names.specs.declared.command.Named.{Named}
-use Rattle.names.specs.declared.command.Named.TheVariants.{Is, Unknown}
+use Rattle.refusals.specs.Refusal.{number_of}
+use Rattle.names.specs.declared.command.Command.{Command}
 use Rattle.commands.specs.declared.table.Rule.{Rule}
 use Rattle.commands.specs.declared.request.Payload.{Payload}
 use Rattle.commands.specs.declared.request.Payload.TheVariants as payload
@@ -22,9 +21,7 @@ use Rattle.bodies.specs.declared.body.Shape.{Shape}
 use Rattle.bodies.specs.declared.body.Shape.TheVariants as shape
 use Rattle.bodies.specs.declared.body.Parsed.{Parsed}
 use Rattle.bodies.specs.declared.body.Parsed.TheVariants as parsed
-use Rattle.bodies.specs.declared.body.Verdict.{Verdict}
-use Rattle.bodies.specs.declared.body.Verdict.TheVariants as verdict
-use Rattle.bodies.specs.declared.body.JudgedBody.{JudgedBody}
+use Rattle.bodies.specs.declared.body.RefusedBody.{RefusedBody}
 use Rattle.bodies.specs.Body.{Judged, Accepted, Refused, given, read_shape}
 
 -- a test for each field that a command expects after its name: that it is in its form, and that its value is in range
@@ -35,9 +32,9 @@ abbrev pub ranges : Rule → List (List ℕ → Bool)
 ranges rule = (λ f. reads_as (λ n. not (outside rule n)) (read_whole f)) ∷ cond rule.store (data_ranges rule.form) []
 
 -- 10 is about forms, 11 and 12 are about ranges
-abbrev pub after_name_position : ℕ → Named → List Placed → ℕ → ℕ
-after_name_position etx (Is c) fs n = offending etx (cond (eqb n 10) (forms (rule_of c)) (ranges (rule_of c))) fs
-after_name_position etx Unknown fs n = etx
+abbrev pub after_name_position : ℕ → Option Command → List Placed → ℕ → ℕ
+after_name_position etx (Some c) fs n = offending etx (cond (eqb n 10) (forms (rule_of c)) (ranges (rule_of c))) fs
+after_name_position etx None fs n = etx
 
 -- 9 is about the name
 abbrev pub fields_position : ℕ → List Placed → ℕ → ℕ
@@ -52,7 +49,7 @@ body_position s n = fields_position (length s - 2) (drop 1 (placed 1 (inner s)))
 
 -- a number and data, with where the data start
 abbrev pub started : ℕ → Option (ℕ × Payload) → Option (ℕ × (Payload × ℕ))
-started start = map (λ p. (p.0, (p.1, start)))
+started start = option_map (λ p. (p.0, (p.1, start)))
 
 -- the fields after the name that stand at an index of a text, which ETX follows
 abbrev pub shape_in : Rule → List ℕ → ℕ → Read (ℕ × (Payload × ℕ))
@@ -61,11 +58,15 @@ shape_in rule s i =
     (offending (length s) (forms rule) (placed i (drop i s)))
     (started (start_of (length s) (drop 1 (placed i (drop i s)))) (read_shape rule (fields (drop i s))))
 
--- what the reader of fields says for an SN or an LN, where these texts stand in the array
-abbrev pub shape_with : Bool → List ℕ → Shape → Read (ℕ × (Payload × ℕ))
-shape_with store ts (shape.Of n r start) = value (n, (given store r, start))
-shape_with store ts (shape.Texts n start) = value (n, (payload.Texts (step_from ts), start))
-shape_with store ts (shape.Malformed p) = wrong p
+-- what was read for an SN or an LN, where these texts stand in the array
+abbrev pub shape_of : Bool → List ℕ → Shape → ℕ × (Payload × ℕ)
+shape_of store ts (shape.Of n r start) = (n, (given store r, start))
+shape_of store ts (shape.Texts n start) = (n, (payload.Texts (step_from ts), start))
+
+-- what the reader of fields says
+abbrev pub shape_with : Bool → List ℕ → Read Shape → Read (ℕ × (Payload × ℕ))
+shape_with store ts (Ok q) = Ok (shape_of store ts q)
+shape_with store ts (Err m) = Err m
 
 -- a body, and the position where it is wrong
 abbrev pub refused_at : ℕ → Bool → ℕ → Judged × ℕ
@@ -80,9 +81,6 @@ abbrev pub request_with : List ℕ → Parsed → Request
 request_with ts (parsed.Request r) = r
 request_with ts (parsed.Step n) = request.Store (store.Step n (step_from ts))
 
-abbrev pub verdict_with : List ℕ → Verdict → Judged
-verdict_with ts (verdict.Accepted p) = Accepted (request_with ts p)
-verdict_with ts (verdict.Refused n store) = Refused n store
-
-abbrev pub judged_with : List ℕ → JudgedBody → Judged × ℕ
-judged_with ts b = (verdict_with ts b.verdict, b.position)
+abbrev pub judged_with : List ℕ → Result Parsed RefusedBody → Judged × ℕ
+judged_with ts (Ok p) = (Accepted (request_with ts p), 0)
+judged_with ts (Err r) = refused_at (number_of r.refusal) r.store r.position

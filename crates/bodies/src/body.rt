@@ -8,99 +8,70 @@ ghost use Rattle.names.specs.declared.command.Command.TheVariants.{Sna};
 ghost use Rattle.commands.specs.declared.request.Payload.TheVariants as payload;
 ghost use Rattle.commands.specs.Table.{rule_of};
 ghost use Rattle.bodies.specs.Body.{given, request_or_refusal, read_body, body_text};
-ghost use Rattle.bodies.specs.Position.{fields_position, body_position, shape_in, shape_with, refused_at, judged_at, request_with, judged_with};
+ghost use Rattle.bodies.specs.Position.{fields_position, body_position, shape_in, shape_with, judged_at, request_with, judged_with};
 
-use commands::request::{Parts, Payload, Request, Row, Store, request_of};
+use commands::request::{Parts, Payload, Request, Row, Store};
 use commands::table::{Rule, rule_of};
 use data::data::{DataRead, put_data, read_data};
 use data::ranges::{is_outside, judge_parts};
-use names::command::{Command, Named, put_name, read_name};
-use steps::step::step_of;
+use names::command::{Command, put_name, read_name};
+use refusals::refusal::Refusal;
+use steps::step::Step;
+use text::field::{At, Malformed};
 use text::put::{Cursor, put_byte};
-use text::whole::{Whole, put_shortest, read_whole};
+use text::whole::{put_shortest, read_whole};
 
 // What the fields after a name are: a number, numbers as data (zeros for an LN, which has none), and where the data start;
-// a number, texts as data, which stand in the array that was lent, and where they start; or the position where the fields
-// are wrong.
+// or a number, texts as data, which stand in the array that was lent, and where they start.
 #[derive(Clone, Copy)]
 pub enum Shape {
     Of(u16, Row, usize),
     Texts(u16, usize),
-    Malformed(usize),
 }
 
 // What an accepted body asks for: a request; or that the step of this number be stored, whose texts stand in the array that
-// was lent.
+// was lent. So no accepted request is copied with room for them (docs/SPEED.md).
 #[derive(Clone, Copy)]
 pub enum Parsed {
     Request(Request),
     Step(u16),
 }
 
-// What a body is. A refusal carries its number, and whether it answers an SN name, on which the form of its reply depends.
+// Why a body is refused; whether it has an SN name, on which the form of its reply depends; and the position in the slice
+// where it is wrong.
 #[derive(Clone, Copy)]
-pub enum Verdict {
-    Accepted(Parsed),
-    Refused(u8, bool),
-}
-
-// That, and the position in the slice where the body is wrong; 0 where it is accepted. The position and the texts stand
-// beside the enum, so that no accepted request is copied with room for them.
-#[derive(Clone, Copy)]
-pub struct JudgedBody {
-    pub verdict: Verdict,
+pub struct RefusedBody {
+    pub refusal: Refusal,
+    pub store: bool,
     pub position: usize,
 }
 
-// Reads the fields of s from index `from` on, which are those after the name.
-fn read_shape(rule: Rule, s: &[u8], from: usize, texts: &mut [u64; 5]) -> Shape
-    requires { from ≤ length s.now }
-    ensures { shape_with rule.store texts.new result ≡ shape_in rule s.now from }
+// Reads the fields from an index on, which are those after the name.
+fn read_shape(rule: Rule, from: At<'_>, texts: &mut [u64; 5]) -> Result<Shape, Malformed>
+    ensures { shape_with rule.store texts.new result ≡ shape_in rule from.entry.text.now from.entry.index }
 {
-    let read = read_whole(s, from);
-    let end = read.end;
-    let whole = read.whole;
-    match whole {
-        Whole::Value(n) => {
-            if end == s.len() {
-                if rule.store {
-                    return Shape::Malformed(end);
-                }
-                let zeros = Row {
-                    x: 0,
-                    y: 0,
-                    z: 0,
-                    w: 0,
-                };
-                return Shape::Of(n, zeros, end);
-            }
-            let start = end + 1;
-            if rule.store {
-                let form = rule.form;
-                let read = read_data(form, s, start, texts);
-                return match read {
-                    DataRead::Numbers(row) => Shape::Of(n, row, start),
-                    DataRead::Texts => Shape::Texts(n, start),
-                    DataRead::Malformed(position) => Shape::Malformed(position),
-                };
-            }
-            Shape::Malformed(start)
+    let text = from.text;
+    let number = read_whole(from)?;
+    if number.end == text.len() {
+        if rule.store {
+            return Err(Malformed {
+                position: number.end,
+            });
         }
-        Whole::Malformed(position) => Shape::Malformed(position),
+        return Ok(Shape::Of(number.value, Row::from(0), number.end));
     }
-}
-
-// A refusal at a position.
-fn refused(number: u8, store: bool, position: usize) -> JudgedBody
-    ensures { (ts : List ℕ) → judged_with ts result ≡ refused_at number store position }
-{
-    JudgedBody {
-        verdict: Verdict::Refused(number, store),
-        position,
+    let start = number.end + 1;
+    if !rule.store {
+        return Err(Malformed { position: start });
+    }
+    match read_data(rule.form, At { text, index: start }, texts)? {
+        DataRead::Numbers(row) => Ok(Shape::Of(number.value, row, start)),
+        DataRead::Texts => Ok(Shape::Texts(number.value, start)),
     }
 }
 
 // Checks 11 and 12 of a command's number and of the numbers that are its data, which stand at these positions.
+#[tactic(auto, using(crate::proofs::Requests::given_judged, crate::proofs::Requests::given_built), unfolding(crate::specs::Body::request_or_refusal))]
 fn request_or_refusal(
     command: Command,
     rule: Rule,
@@ -108,75 +79,97 @@ fn request_or_refusal(
     row: Row,
     number: usize,
     datum: usize,
-) -> JudgedBody
+) -> Result<Parsed, RefusedBody>
     requires { rule ≡ rule_of command }
     ensures { (ts : List ℕ) → judged_with ts result ≡ judged_at (λ m. cond (eqb m 11) number datum) (request_or_refusal command n (given rule.store row)) }
 {
     let payload = Payload::Numbers(row);
-    let refusal = judge_parts(rule, n, payload);
-    if refusal == 0 {
-        let request = request_of(Parts {
-            command,
-            number: n,
-            payload,
-        });
-        return JudgedBody {
-            verdict: Verdict::Accepted(Parsed::Request(request)),
-            position: 0,
+    if let Err(refusal) = judge_parts(rule, n, payload) {
+        let position = if refusal == Refusal::Number {
+            number
+        } else {
+            datum
         };
+        return Err(RefusedBody {
+            refusal,
+            store: rule.store,
+            position,
+        });
     }
-    if refusal == 11 {
-        return refused(refusal, rule.store, number);
-    }
-    refused(refusal, rule.store, datum)
+    let parts = Parts {
+        command,
+        number: n,
+        payload,
+    };
+    Ok(Parsed::Request(parts.into()))
 }
 
 // Check 11 of the number of a step, which stands at this position. Check 12 passes, since the step was read.
-fn step_or_refusal(rule: Rule, n: u16, number: usize) -> JudgedBody
+#[tactic(auto, unfolding(crate::specs::Body::request_or_refusal, data::specs::Ranges::judge))]
+fn step_or_refusal(rule: Rule, n: u16, number: usize) -> Result<Parsed, RefusedBody>
     requires { rule ≡ rule_of Sna }
     ensures { (ts : List ℕ) → is_step (step_from ts) ≡ true → judged_with ts result ≡ judged_at (λ m. number) (request_or_refusal Sna n (payload.Texts (step_from ts))) }
 {
     if is_outside(rule, n) {
-        return refused(11, true, number);
+        return Err(RefusedBody {
+            refusal: Refusal::Number,
+            store: true,
+            position: number,
+        });
     }
-    JudgedBody {
-        verdict: Verdict::Accepted(Parsed::Step(n)),
-        position: 0,
-    }
+    Ok(Parsed::Step(n))
 }
 
-// Reads the fields of s from index `from` on as a request: checks 9 to 12, in their order.
-fn read_fields(s: &[u8], from: usize, texts: &mut [u64; 5]) -> JudgedBody
-    requires { from ≤ length s.now }
-    ensures { judged_with texts.new result ≡ judged_at (fields_position (length s.now) (placed from (drop from s.now))) (read_body (drop from s.now)) }
+// Reads the fields from an index on as a request: checks 9 to 12, in their order.
+fn read_fields(from: At<'_>, texts: &mut [u64; 5]) -> Result<Parsed, RefusedBody>
+    ensures { judged_with texts.new result ≡ judged_at (fields_position (length from.entry.text.now) (placed from.entry.index (drop from.entry.index from.entry.text.now))) (read_body (drop from.entry.index from.entry.text.now)) }
 {
-    let read = read_name(&s[from..]);
-    let name = read.name;
-    let Named::Is(command) = name else {
-        return refused(9, false, from);
+    let text = from.text;
+    let Some(name) = read_name(&text[from.index..]) else {
+        return Err(RefusedBody {
+            refusal: Refusal::Command,
+            store: false,
+            position: from.index,
+        });
     };
+    let command = name.value;
     let rule = rule_of(command);
-    let end = from + read.end;
-    if end == s.len() {
-        return refused(10, rule.store, end);
+    let end = from.index + name.end;
+    if end == text.len() {
+        return Err(RefusedBody {
+            refusal: Refusal::Shape,
+            store: rule.store,
+            position: end,
+        });
     }
-    let number = end + 1;
-    let shape = read_shape(rule, s, number, texts);
-    match shape {
-        Shape::Of(n, row, datum) => request_or_refusal(command, rule, n, row, number, datum),
-        Shape::Texts(n, _) => step_or_refusal(rule, n, number),
-        Shape::Malformed(position) => refused(10, rule.store, position),
+    let number = At {
+        text,
+        index: end + 1,
+    };
+    match read_shape(rule, number, texts) {
+        Ok(Shape::Of(n, row, datum)) => {
+            request_or_refusal(command, rule, n, row, number.index, datum)
+        }
+        Ok(Shape::Texts(n, _)) => step_or_refusal(rule, n, number.index),
+        Err(malformed) => Err(RefusedBody {
+            refusal: Refusal::Shape,
+            store: rule.store,
+            position: malformed.position,
+        }),
     }
 }
 
 // Reads the body of an accepted frame, which stands before the slice's last two bytes: checks 9 to 12, in their order.
-pub fn read_body(slice: &[u8], body: &[u8], texts: &mut [u64; 5]) -> JudgedBody
+pub fn read_body(slice: &[u8], body: &[u8], texts: &mut [u64; 5]) -> Result<Parsed, RefusedBody>
     requires { ((read_frame slice.now).number ≡ 0) × (body.now ≡ (read_frame slice.now).body) }
     ensures { judged_with texts.new result ≡ judged_at (body_position slice.now) (read_body (read_frame slice.now).body) }
 {
     let etx = slice.len() - 2;
-    let from = etx - body.len();
-    read_fields(&slice[..etx], from, texts)
+    let from = At {
+        text: &slice[..etx],
+        index: etx - body.len(),
+    };
+    read_fields(from, texts)
 }
 
 // The request that an accepted body is, with these texts in the array.
@@ -185,26 +178,23 @@ pub fn request_with(texts: [u64; 5], parsed: Parsed) -> Request
 {
     match parsed {
         Parsed::Request(request) => request,
-        Parsed::Step(n) => Request::Store(Store::Step(n, step_of(texts))),
+        Parsed::Step(n) => Request::Store(Store::Step(n, Step::from(texts))),
     }
 }
 
 // Writes the body of a request.
+#[tactic(auto, unfolding(crate::specs::Body::body_text))]
 pub fn put_body(area: &mut [u8], to: Cursor, parts: Parts) -> Cursor
     requires { to.at + length (body_text parts) ≤ length area.old }
     ensures { Put area.old to (body_text parts) result area.new }
 {
-    let command = parts.command;
-    let number = parts.number;
-    let payload = parts.payload;
-    let rule = rule_of(command);
-    let form = rule.form;
-    let space = put_name(area, to, command);
+    let rule = rule_of(parts.command);
+    let space = put_name(area, to, parts.command);
     let digits = put_byte(area, space, b' ');
-    let end = put_shortest(area, digits, number);
+    let end = put_shortest(area, digits, parts.number);
     if rule.store {
         let from = put_byte(area, end, b' ');
-        return put_data(area, from, form, payload);
+        return put_data(area, from, rule.form, parts.payload);
     }
     end
 }

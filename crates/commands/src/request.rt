@@ -1,7 +1,7 @@
 // Typed requests, and their parts. Numbers and data are wide enough to be out of range: a typed value that
 // no request can carry is refused by its writer.
 ghost use Rattle.std.specs.Prelude.{◌≡◌};
-ghost use Rattle.commands.specs.Request.{row_fields, row_of, row_in, no_step, step_in, bare_parts, single_parts, parts_of, load_parts, store_parts, request_of};
+ghost use Rattle.commands.specs.Request.{row_fields, row_of, one, row_in, step_in, bare_parts, single_parts, parts_of, load_parts, store_parts, request_of};
 
 use names::command::Command;
 use steps::step::Step;
@@ -75,21 +75,39 @@ pub struct Parts {
 }
 
 // The fields of a row, in their order.
-pub fn fields_of(row: Row) -> [i32; 4]
-    ensures { result ≡ row_fields row }
-{
-    [row.x, row.y, row.z, row.w]
+impl From<Row> for [i32; 4] {
+    ghost from_gives = { λ row fields. fields ≡ row_fields row };
+
+    fn from(row: Row) -> [i32; 4] {
+        [row.x, row.y, row.z, row.w]
+    }
 }
 
 // The row of these fields.
-pub fn row_of(fields: [i32; 4]) -> Row
-    ensures { result ≡ row_of fields }
-{
-    Row {
-        x: fields[0],
-        y: fields[1],
-        z: fields[2],
-        w: fields[3],
+impl From<[i32; 4]> for Row {
+    ghost from_gives = { λ fields row. row ≡ row_of fields };
+
+    fn from(fields: [i32; 4]) -> Row {
+        Row {
+            x: fields[0],
+            y: fields[1],
+            z: fields[2],
+            w: fields[3],
+        }
+    }
+}
+
+// The data of every kind but a row: a single number.
+impl From<i32> for Row {
+    ghost from_gives = { λ v row. row ≡ one v };
+
+    fn from(v: i32) -> Row {
+        Row {
+            x: v,
+            y: 0,
+            z: 0,
+            w: 0,
+        }
     }
 }
 
@@ -99,33 +117,18 @@ pub fn row_in(payload: Payload) -> Row
 {
     match payload {
         Payload::Numbers(row) => row,
-        Payload::Texts(_) => Row {
-            x: 0,
-            y: 0,
-            z: 0,
-            w: 0,
-        },
-        Payload::None => Row {
-            x: 0,
-            y: 0,
-            z: 0,
-            w: 0,
-        },
+        Payload::Texts(_) | Payload::None => Row::from(0),
     }
 }
 
 // A step without a text.
-fn empty() -> Step
-    ensures { result ≡ no_step }
-{
-    Step {
-        command: Text(0),
-        first: Text(0),
-        second: Text(0),
-        third: Text(0),
-        fourth: Text(0),
-    }
-}
+const NO_STEP: Step = Step {
+    command: Text(0),
+    first: Text(0),
+    second: Text(0),
+    third: Text(0),
+    fourth: Text(0),
+};
 
 // The step that a payload holds; one without a text where it holds none.
 pub fn step_in(payload: Payload) -> Step
@@ -133,8 +136,7 @@ pub fn step_in(payload: Payload) -> Step
 {
     match payload {
         Payload::Texts(step) => step,
-        Payload::Numbers(_) => empty(),
-        Payload::None => empty(),
+        Payload::Numbers(_) | Payload::None => NO_STEP,
     }
 }
 
@@ -154,12 +156,7 @@ fn single(command: Command, number: u16, v: i32) -> Parts
     Parts {
         command,
         number,
-        payload: Payload::Numbers(Row {
-            x: v,
-            y: 0,
-            z: 0,
-            w: 0,
-        }),
+        payload: Payload::Numbers(Row::from(v)),
     }
 }
 
@@ -204,42 +201,44 @@ fn store_parts(store: Store) -> Parts
 }
 
 // The parts of a request.
-pub fn parts_of(request: Request) -> Parts
-    ensures { result ≡ parts_of request }
-{
-    match request {
-        Request::Load(load) => load_parts(load),
-        Request::Store(store) => store_parts(store),
+impl From<Request> for Parts {
+    ghost from_gives = { λ request parts. parts ≡ parts_of request };
+
+    fn from(request: Request) -> Parts {
+        match request {
+            Request::Load(load) => load_parts(load),
+            Request::Store(store) => store_parts(store),
+        }
     }
 }
 
 // The request that has these parts.
-pub fn request_of(parts: Parts) -> Request
-    ensures { result ≡ request_of parts }
-{
-    let n = parts.number;
-    let payload = parts.payload;
-    let row = row_in(payload);
-    let v = row.x;
-    let command = parts.command;
-    match command {
-        Command::Lnt => Request::Load(Load::Timer(n)),
-        Command::Snt => Request::Store(Store::Timer(n, v)),
-        Command::Lnd => Request::Load(Load::Register(n)),
-        Command::Snd => Request::Store(Store::Register(n, v)),
-        Command::Lnl => Request::Load(Load::Row(n)),
-        Command::Snl => Request::Store(Store::Row(n, row)),
-        Command::Lnib => Request::Load(Load::Input(Signal(n))),
-        Command::Lnob => Request::Load(Load::Output(Signal(n))),
-        Command::Snob => Request::Store(Store::Output(Signal(n), v)),
-        Command::Lnid => Request::Load(Load::InputPort(Port(n))),
-        Command::Lnod => Request::Load(Load::OutputPort(Port(n))),
-        Command::Snod => Request::Store(Store::OutputPort(Port(n), v)),
-        Command::Lnbb => Request::Load(Load::MemoryBit(Signal(n))),
-        Command::Snbb => Request::Store(Store::MemoryBit(Signal(n), v)),
-        Command::Lnbd => Request::Load(Load::MemoryPort(Port(n))),
-        Command::Snbd => Request::Store(Store::MemoryPort(Port(n), v)),
-        Command::Lna => Request::Load(Load::Step(n)),
-        Command::Sna => Request::Store(Store::Step(n, step_in(payload))),
+impl From<Parts> for Request {
+    ghost from_gives = { λ parts request. request ≡ request_of parts };
+
+    fn from(parts: Parts) -> Request {
+        let n = parts.number;
+        let row = row_in(parts.payload);
+        let v = row.x;
+        match parts.command {
+            Command::Lnt => Request::Load(Load::Timer(n)),
+            Command::Snt => Request::Store(Store::Timer(n, v)),
+            Command::Lnd => Request::Load(Load::Register(n)),
+            Command::Snd => Request::Store(Store::Register(n, v)),
+            Command::Lnl => Request::Load(Load::Row(n)),
+            Command::Snl => Request::Store(Store::Row(n, row)),
+            Command::Lnib => Request::Load(Load::Input(Signal(n))),
+            Command::Lnob => Request::Load(Load::Output(Signal(n))),
+            Command::Snob => Request::Store(Store::Output(Signal(n), v)),
+            Command::Lnid => Request::Load(Load::InputPort(Port(n))),
+            Command::Lnod => Request::Load(Load::OutputPort(Port(n))),
+            Command::Snod => Request::Store(Store::OutputPort(Port(n), v)),
+            Command::Lnbb => Request::Load(Load::MemoryBit(Signal(n))),
+            Command::Snbb => Request::Store(Store::MemoryBit(Signal(n), v)),
+            Command::Lnbd => Request::Load(Load::MemoryPort(Port(n))),
+            Command::Snbd => Request::Store(Store::MemoryPort(Port(n), v)),
+            Command::Lna => Request::Load(Load::Step(n)),
+            Command::Sna => Request::Store(Store::Step(n, step_in(parts.payload))),
+        }
     }
 }

@@ -5,7 +5,7 @@ ghost use Rattle.commands.specs.Table.{loads, stores, rule_of};
 use names::command::Command;
 
 // What numbers as data are: a timer's or a register's value, an offset row, one signal or a port of eight.
-#[derive(Clone, Copy)]
+#[derive(Clone, Copy, PartialEq, Eq)]
 pub enum Kind {
     Timer,
     Register,
@@ -15,7 +15,7 @@ pub enum Kind {
 }
 
 // What a command's data are: numbers of a kind, or the texts of a step.
-#[derive(Clone, Copy)]
+#[derive(Clone, Copy, PartialEq, Eq)]
 pub enum Form {
     Numbers(Kind),
     Texts,
@@ -30,7 +30,8 @@ pub struct Rule {
     pub last: u16,
 }
 
-fn load(form: Form, first: u16, last: u16) -> Rule
+// An LN: no data are given, and data of this form are replied.
+fn loads(form: Form, first: u16, last: u16) -> Rule
     ensures { result ≡ loads form first last }
 {
     Rule {
@@ -41,15 +42,11 @@ fn load(form: Form, first: u16, last: u16) -> Rule
     }
 }
 
-fn store(form: Form, first: u16, last: u16) -> Rule
-    ensures { result ≡ stores (loads form first last) }
+// Its SN: data of that form are given, under the same numbers.
+fn stores(ln: Rule) -> Rule
+    ensures { result ≡ stores ln }
 {
-    Rule {
-        store: true,
-        form,
-        first,
-        last,
-    }
+    Rule { store: true, ..ln }
 }
 
 // A command's row of the table.
@@ -57,23 +54,23 @@ pub fn rule_of(command: Command) -> Rule
     ensures { result ≡ rule_of command }
 {
     match command {
-        Command::Lnt => load(Form::Numbers(Kind::Timer), 0, 15),
-        Command::Snt => store(Form::Numbers(Kind::Timer), 0, 15),
-        Command::Lnd => load(Form::Numbers(Kind::Register), 0, 63),
-        Command::Snd => store(Form::Numbers(Kind::Register), 0, 63),
-        Command::Lnl => load(Form::Numbers(Kind::Row), 0, 99),
-        Command::Snl => store(Form::Numbers(Kind::Row), 0, 99),
-        Command::Lnib => load(Form::Numbers(Kind::Signal), 0, 255),
-        Command::Lnob => load(Form::Numbers(Kind::Signal), 0, 255),
-        Command::Snob => store(Form::Numbers(Kind::Signal), 0, 255),
-        Command::Lnid => load(Form::Numbers(Kind::Port), 0, 31),
-        Command::Lnod => load(Form::Numbers(Kind::Port), 0, 31),
-        Command::Snod => store(Form::Numbers(Kind::Port), 0, 31),
-        Command::Lnbb => load(Form::Numbers(Kind::Signal), 256, 383),
-        Command::Snbb => store(Form::Numbers(Kind::Signal), 256, 383),
-        Command::Lnbd => load(Form::Numbers(Kind::Port), 0, 15),
-        Command::Snbd => store(Form::Numbers(Kind::Port), 0, 15),
-        Command::Lna => load(Form::Texts, 0, 255),
-        Command::Sna => store(Form::Texts, 0, 255),
+        Command::Lnt => loads(Form::Numbers(Kind::Timer), 0, 15),
+        Command::Snt => stores(loads(Form::Numbers(Kind::Timer), 0, 15)),
+        Command::Lnd => loads(Form::Numbers(Kind::Register), 0, 63),
+        Command::Snd => stores(loads(Form::Numbers(Kind::Register), 0, 63)),
+        Command::Lnl => loads(Form::Numbers(Kind::Row), 0, 99),
+        Command::Snl => stores(loads(Form::Numbers(Kind::Row), 0, 99)),
+        Command::Lnib => loads(Form::Numbers(Kind::Signal), 0, 255),
+        Command::Lnob => loads(Form::Numbers(Kind::Signal), 0, 255),
+        Command::Snob => stores(loads(Form::Numbers(Kind::Signal), 0, 255)),
+        Command::Lnid => loads(Form::Numbers(Kind::Port), 0, 31),
+        Command::Lnod => loads(Form::Numbers(Kind::Port), 0, 31),
+        Command::Snod => stores(loads(Form::Numbers(Kind::Port), 0, 31)),
+        Command::Lnbb => loads(Form::Numbers(Kind::Signal), 256, 383),
+        Command::Snbb => stores(loads(Form::Numbers(Kind::Signal), 256, 383)),
+        Command::Lnbd => loads(Form::Numbers(Kind::Port), 0, 15),
+        Command::Snbd => stores(loads(Form::Numbers(Kind::Port), 0, 15)),
+        Command::Lna => loads(Form::Texts, 0, 255),
+        Command::Sna => stores(loads(Form::Texts, 0, 255)),
     }
 }

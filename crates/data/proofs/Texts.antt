@@ -3,7 +3,7 @@ use Prim.Native.Nat.{ℕ, ◌-◌, ◌*◌, ◌≤◌}
 use mathlib.Core.Path.{◌≡◌, refl, ap}
 use mathlib.Core.Bool.{true}
 use mathlib.Core.List.{[]}
-use mathlib.Core.Option.{none, some, map}
+use Rattle.std.specs.Prelude.{None, Some, option_map}
 use native.Mathlib.Omega.{arith}
 use lib.ListN.{length}
 use Rattle.text.proofs.Laws.{Skips}
@@ -43,7 +43,7 @@ data_length (Numbers k) p = omega (arith, (numbers.numbers_length k (row_in p)).
 data_length Texts p = step_length (step_in p)
 
 -- without a field there are no data
-pub no_fields : (etx : ℕ) (f : Form) → (offending etx (data_forms f) [] ≡ etx) × (read_data f [] ≡ none)
+pub no_fields : (etx : ℕ) (f : Form) → (offending etx (data_forms f) [] ≡ etx) × (read_data f [] ≡ None)
 unfolding read_fields read_step
 no_fields etx (Numbers k) = rw (some_value k).1 (offending_lack etx _ _, refl)
 no_fields etx Texts = (offending_lack etx _ _, refl)
@@ -54,9 +54,9 @@ kept (Numbers k) p = payload.Numbers (numbers.kept k (row_in p))
 kept Texts p = payload.Texts (step_in p)
 
 -- data in range read back
-pub data_back : (f : Form) (p : Payload) → in_ranges f p ≡ true → read_data f (fields (data_text f p)) ≡ some (kept f p)
+pub data_back : (f : Form) (p : Payload) → in_ranges f p ≡ true → read_data f (fields (data_text f p)) ≡ Some (kept f p)
 data_back f payload.None e = false_true e
-data_back (Numbers k) (payload.Numbers r) e = ap (map payload.Numbers) (numbers.numbers_back k r e)
+data_back (Numbers k) (payload.Numbers r) e = ap (option_map payload.Numbers) (numbers.numbers_back k r e)
 data_back Texts (payload.Numbers r) e = false_true e
 data_back (Numbers k) (payload.Texts s) e = false_true e
-data_back Texts (payload.Texts s) e = ap (map payload.Texts) (step_reads_back s e)
+data_back Texts (payload.Texts s) e = ap (option_map payload.Texts) (step_reads_back s e)

@@ -1,10 +1,8 @@
 -- Data as text (document 01, "Commands"; for texts document 02, E3): numbers of a kind, or the texts of a step.
-use Rattle.std.specs.Prelude.{ℕ, Bool, List, length, drop}
-use Rattle.std.proofs.Math.Option.{Option, map}
+use Rattle.std.specs.Prelude.{ℕ, Bool, List, length, drop, Option, option_map, Ok, Err}
 use Rattle.frame.specs.Fields.{fields, placed, offending}
-use Rattle.text.specs.Read.{Read, value, wrong, read_at}
+use Rattle.text.specs.Read.{Read, read_at}
 use Rattle.steps.specs.Step.{step_from, read_step, step_forms, step_text}
-use Rattle.commands.specs.declared.table.Kind.{Kind}
 use Rattle.commands.specs.declared.table.Form.{Form}
 use Rattle.commands.specs.declared.table.Form.TheVariants.{Numbers, Texts}
 use Rattle.commands.specs.declared.request.Payload.{Payload}
@@ -16,8 +14,8 @@ use Rattle.data.specs.declared.data.DataRead.TheVariants as read
 
 -- the fields as data of a form; none where they are not
 abbrev pub read_data : Form → List (List ℕ) → Option Payload
-read_data (Numbers k) fs = map payload.Numbers (read_numbers k fs)
-read_data Texts fs = map payload.Texts (read_step fs)
+read_data (Numbers k) fs = option_map payload.Numbers (read_numbers k fs)
+read_data Texts fs = option_map payload.Texts (read_step fs)
 
 -- a test for each field of data (document 02, E9): that it is in its form
 abbrev pub data_forms : Form → List (List ℕ → Bool)
@@ -33,18 +31,15 @@ data_ranges Texts = step_forms
 abbrev pub data_in : Form → List ℕ → ℕ → Read Payload
 data_in f s i = read_at (offending (length s) (data_forms f) (placed i (drop i s))) (read_data f (fields (drop i s)))
 
--- of each form
-abbrev pub numbers_in : Kind → List ℕ → ℕ → Read Payload
-numbers_in k = data_in (Numbers k)
-
-abbrev pub texts_in : List ℕ → ℕ → Read Payload
-texts_in = data_in Texts
+-- what was read, where these texts stand in the array
+abbrev pub payload_with : List ℕ → DataRead → Payload
+payload_with ts (read.Numbers r) = payload.Numbers r
+payload_with ts read.Texts = payload.Texts (step_from ts)
 
 -- what the reader's answer says, where these texts stand in the array
-abbrev pub data_with : List ℕ → DataRead → Read Payload
-data_with ts (read.Numbers r) = value (payload.Numbers r)
-data_with ts read.Texts = value (payload.Texts (step_from ts))
-data_with ts (read.Malformed p) = wrong p
+abbrev pub data_with : List ℕ → Read DataRead → Read Payload
+data_with ts (Ok d) = Ok (payload_with ts d)
+data_with ts (Err m) = Err m
 
 -- the text of data
 abbrev pub data_text : Form → Payload → List ℕ

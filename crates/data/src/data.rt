@@ -1,57 +1,34 @@
 // Data of either form, read and written.
-ghost use Rattle.std.specs.Prelude.{◌≡◌, ◌≤◌, ◌+◌, List, ℕ, length};
+ghost use Rattle.std.specs.Prelude.{◌≡◌, ◌≤◌, ◌+◌, length};
 ghost use Rattle.text.specs.Put.{Put};
-ghost use Rattle.data.specs.Data.{data_with, numbers_in, texts_in, data_in, data_text};
+ghost use Rattle.data.specs.Data.{data_with, data_in, data_text};
 
 use commands::request::{Payload, Row, row_in, step_in};
-use commands::table::{Form, Kind};
-use numbers::numbers::{Values, put_numbers, read_numbers};
-use steps::step::{StepRead, packed_of, put_step, read_step};
+use commands::table::Form;
+use numbers::numbers::{put_numbers, read_numbers};
+use steps::step::{put_step, read_step};
+use text::field::{At, Malformed};
 use text::put::Cursor;
 
-// What fields are as data; where they are not, with the position where they are wrong. Texts stand beside the enum, in an
-// array that the caller lends, so that no numbers are copied with room for them.
+// What fields are as data. Texts stand beside the enum, in an array that the caller lends, so that no numbers are copied with
+// room for them (docs/SPEED.md).
 #[derive(Clone, Copy)]
 pub enum DataRead {
     Numbers(Row),
     Texts,
-    Malformed(usize),
 }
 
-fn numbers_in(kind: Kind, s: &[u8], from: usize) -> DataRead
-    requires { from ≤ length s.now }
-    ensures { (ts : List ℕ) → data_with ts result ≡ numbers_in kind s.now from }
-{
-    let values = read_numbers(kind, s, from);
-    match values {
-        Values::Of(row) => DataRead::Numbers(row),
-        Values::Malformed(position) => DataRead::Malformed(position),
-    }
-}
-
-fn texts_in(s: &[u8], from: usize, texts: &mut [u64; 5]) -> DataRead
-    requires { from ≤ length s.now }
-    ensures { data_with texts.new result ≡ texts_in s.now from }
-{
-    let read = read_step(s, from);
-    match read {
-        StepRead::Of(step) => {
-            *texts = packed_of(step);
-            DataRead::Texts
-        }
-        StepRead::Malformed(position) => DataRead::Malformed(position),
-    }
-}
-
-// Reads the fields of s from index `from` on as data of a form. Not data: at the first malformed field; if all are in
-// their form, at the first surplus field, or at the end of s where fields lack.
-pub fn read_data(form: Form, s: &[u8], from: usize, texts: &mut [u64; 5]) -> DataRead
-    requires { from ≤ length s.now }
-    ensures { data_with texts.new result ≡ data_in form s.now from }
+// Reads the fields from an index on as data of a form. Not data: at the first malformed field; if all are in their form, at
+// the first surplus field, or at the end of the text where fields lack.
+pub fn read_data(form: Form, from: At<'_>, texts: &mut [u64; 5]) -> Result<DataRead, Malformed>
+    ensures { data_with texts.new result ≡ data_in form from.entry.text.now from.entry.index }
 {
     match form {
-        Form::Numbers(kind) => numbers_in(kind, s, from),
-        Form::Texts => texts_in(s, from, texts),
+        Form::Numbers(kind) => Ok(DataRead::Numbers(read_numbers(kind, from)?)),
+        Form::Texts => {
+            *texts = read_step(from)?.into();
+            Ok(DataRead::Texts)
+        }
     }
 }
 

@@ -1,10 +1,12 @@
 // The ranges of numbers and data.
 ghost use Rattle.std.specs.Prelude.{◌≡◌};
+ghost use Rattle.refusals.specs.Refusal.{refusal_number};
 ghost use Rattle.data.specs.Ranges.{row_in_range, step_in_range, in_ranges, outside, judge};
 
 use commands::request::{Payload, Row};
 use commands::table::{Form, Rule};
 use numbers::ranges::all_in_range;
+use refusals::refusal::Refusal;
 use steps::step::{Step, is_step};
 
 fn row_in_range(form: Form, row: Row) -> bool
@@ -40,25 +42,19 @@ pub fn in_ranges(form: Form, payload: Payload) -> bool
 pub fn is_outside(rule: Rule, number: u16) -> bool
     ensures { result ≡ outside rule number }
 {
-    if number < rule.first {
-        return true;
-    }
-    rule.last < number
+    number < rule.first || rule.last < number
 }
 
-// Checks 11 and 12 of a number and of data, in that order; 0 where both pass.
-pub fn judge_parts(rule: Rule, number: u16, payload: Payload) -> u8
-    ensures { result ≡ judge rule number payload }
+// Checks 11 and 12 of a number and of data, in that order.
+#[tactic(auto, unfolding(crate::specs::Ranges::judge))]
+pub fn judge_parts(rule: Rule, number: u16, payload: Payload) -> Result<(), Refusal>
+    ensures { refusal_number result ≡ judge rule number payload }
 {
     if is_outside(rule, number) {
-        return 11;
+        return Err(Refusal::Number);
     }
-    if rule.store {
-        let form = rule.form;
-        if in_ranges(form, payload) {
-            return 0;
-        }
-        return 12;
+    if rule.store && !in_ranges(rule.form, payload) {
+        return Err(Refusal::Value);
     }
-    0
+    Ok(())
 }

@@ -3,14 +3,12 @@ use Prim.Native.Nat.{ℕ}
 use mathlib.Core.Path.{◌≡◌, refl}
 use mathlib.Core.Bool.{Bool, true, false, cond}
 use mathlib.Core.List.{List, [], ◌∷◌}
-use mathlib.Core.Option.{Option, none, some}
+use Rattle.std.specs.Prelude.{Option, None, Some}
 use native.Mathlib.Omega.{arith}
 use borrow.Author.Tests.{eqb-true}
 use lib.Dec.{eqb}
 use Rattle.names.specs.declared.command.Command.{Command}
 use Rattle.names.specs.declared.command.Command.TheVariants.{Lnt, Snt, Lnd, Snd, Lnl, Snl, Lnib, Lnob, Snob, Lnid, Lnod, Snod, Lnbb, Snbb, Lnbd, Snbd, Lna, Sna}
-use Rattle.names.specs.declared.command.Named.{Named}
-use Rattle.names.specs.declared.command.Named.TheVariants.{Is, Unknown}
 use Rattle.commands.specs.declared.table.Kind.{Kind}
 use Rattle.commands.specs.declared.table.Kind.TheVariants.{Timer, Register, Signal, Port}
 use Rattle.commands.specs.declared.table.Form.TheVariants.{Numbers}
@@ -97,12 +95,12 @@ request_in_range c n row r e = go (eqb (judge (rule_of c) n row) 0) refl e
     go false p q = never q
 
 shaped_in_range : (c : Command) (s : Option (ℕ × Payload)) (r : Request) → shaped c s ≡ Accepted r → judge_request r ≡ 0
-shaped_in_range c (some p) r e = request_in_range c p.0 p.1 r e
-shaped_in_range c none r e = never e
+shaped_in_range c (Some p) r e = request_in_range c p.0 p.1 r e
+shaped_in_range c None r e = never e
 
-named_in_range : (w : Named) (fs : List (List ℕ)) (r : Request) → after_name w fs ≡ Accepted r → judge_request r ≡ 0
-named_in_range (Is c) fs r e = shaped_in_range c (read_shape (rule_of c) fs) r e
-named_in_range Unknown fs r e = never e
+named_in_range : (w : Option Command) (fs : List (List ℕ)) (r : Request) → after_name w fs ≡ Accepted r → judge_request r ≡ 0
+named_in_range (Some c) fs r e = shaped_in_range c (read_shape (rule_of c) fs) r e
+named_in_range None fs r e = never e
 
 fields_in_range : (fs : List (List ℕ)) (r : Request) → of_fields fs ≡ Accepted r → judge_request r ≡ 0
 fields_in_range [] r e = never e

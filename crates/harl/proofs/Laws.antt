@@ -1,33 +1,30 @@
--- Checks that pass, what data that answer a command are, what a body was judged, and what a writer answers.
+-- Checks that pass, what data that answer a command are, and what a writer answers.
 use Prim.Native.Nat.{ℕ, zero, suc, ◌≤◌}
 use mathlib.Core.Path.{◌≡◌, refl, sym, ap, ◌∙◌}
 use mathlib.Core.Bool.{Bool, true, false, cond, ◌&&◌, ◌||◌}
-use mathlib.Core.List.{List, []}
+use mathlib.Core.List.{List, [], ◌∷◌, ◌++◌}
 use native.Mathlib.Omega.{arith}
 use borrow.Author.Tests.{eqb-true}
 use lib.Dec.{eqb}
 use lib.ListN.{length}
-use Rattle.text.specs.Put.{PutAt}
-use Rattle.frame.specs.Frame.{read_frame}
+use Rattle.text.specs.Put.{Put, PutAt}
+use Rattle.text.specs.Whole.{shortest}
+use Rattle.text.specs.declared.put.Cursor.{Cursor}
+use Rattle.frame.specs.Checksum.{lrc_of}
+use Rattle.frame.specs.Frame.{opening, closing, frame_of}
+use Rattle.frame.proofs.Writing.{framed}
+use Rattle.frame.proofs.Short.{frame_fits}
 use Rattle.commands.specs.declared.table.Kind.TheVariants.{Timer, Register, Row, Signal, Port}
 use Rattle.commands.specs.declared.table.Form.{Form}
 use Rattle.commands.specs.declared.table.Form.TheVariants.{Numbers, Texts}
 use Rattle.commands.specs.declared.table.Rule.{Rule}
-use Rattle.bodies.specs.Body.{Judged}
-use Rattle.bodies.specs.Body as judged
-use Rattle.bodies.specs.declared.body.Verdict.{Verdict}
-use Rattle.bodies.specs.declared.body.Verdict.TheVariants as verdict
-use Rattle.bodies.specs.declared.body.JudgedBody.{JudgedBody}
 use Rattle.replies.specs.declared.reply.Content.{Content}
 use Rattle.replies.specs.declared.reply.Data.{Data}
 use Rattle.replies.specs.declared.reply.Outcome.TheVariants as outcome
 use Rattle.data.specs.Ranges.{in_ranges}
-use Rattle.bodies.specs.Body.{read_body}
-use Rattle.bodies.specs.Position.{body_position, judged_at, verdict_with, judged_with}
 use Rattle.replies.specs.Reply.{content_of}
 use Rattle.reply_writer.specs.Writer.{code_of, number_fits, content_fits, judge_outcome}
-use Rattle.harl.specs.declared.message.Sent.{Sent}
-use Rattle.harl.specs.Message.{unsent, Wrote}
+use Rattle.harl.specs.Message.{Wrote}
 
 -- ---- refusal numbers, which are 0 where a check passes
 
@@ -80,23 +77,23 @@ fitting rule asked d = go rule.store (eqb (code_of (content_of d).form) (code_of
     go false true true false p q r w e = absurd (omega arith)
     go false true true true p q r w e = record { loads = p; form = form_is _ _ (eqb-true _ _ q); number = r; range = w }
 
--- ---- what the reader of a body answers
-
-same_judged : (p : ℕ → ℕ) (v : Judged) → (judged_at p v).0 ≡ v
-same_judged p (judged.Accepted r) = refl
-same_judged p (judged.Refused n store) = refl
-
-module _ (slice ts : List ℕ) (j : JudgedBody) (e : judged_with ts j ≡ judged_at (body_position slice) (read_body (read_frame slice).body)) where
-  pub body_judged : {v : Verdict} → j.verdict ≡ v → read_body (read_frame slice).body ≡ verdict_with ts v
-  body_judged g = sym (ap (λ (x : Judged × ℕ). x.0) e ∙ same_judged _ _) ∙ ap (verdict_with ts) g
-
-  pub body_refused : {n : ℕ} {store : Bool} → j.verdict ≡ verdict.Refused n store → j.position ≡ body_position slice n
-  body_refused g = ap (λ (x : Judged × ℕ). x.1) e ∙ ap (λ (v : Judged). (judged_at (body_position slice) v).1) (body_judged g)
-
 -- ---- what a writer answers
 
-pub wrote_none : {n p : ℕ} {xs : List ℕ} {sent : Sent} → sent ≡ unsent n p → Wrote (record { number = n; position = p; bytes = [] }) xs sent xs
-wrote_none e = rw e (record { number = refl; position = refl; length_is = refl; fits = omega arith; area = refl })
-
-pub wrote_all : {n p r : ℕ} {bytes xs ys : List ℕ} → PutAt xs 0 bytes r ys → length bytes ≤ length xs → Wrote (record { number = n; position = p; bytes = bytes }) xs (record { number = n; length = r; position = p }) ys
-wrote_all w fits = record { number = refl; position = refl; length_is = omega (arith, w.next); fits = fits; area = w.area }
+-- a frame of a body that is no longer than 56 bytes, in an area of 64 bytes at least
+pub wrote_frame :
+    (st : ℕ) (body : List ℕ) {xs ys zs us : List ℕ} {a e : Cursor} {r : ℕ} →
+    64 ≤ length xs →
+    length body ≤ 56 →
+    PutAt xs 0 (opening st) a.at ys × (a.sum ≡ lrc_of (shortest st ++ (32 ∷ []))) →
+    Put ys a body e zs →
+    ((t : List ℕ) → e.sum ≡ lrc_of t → PutAt zs e.at (closing t) r us) →
+    Wrote (record { number = 0; position = 0; bytes = frame_of st body }) xs (record { number = 0; length = r; position = 0 }) us
+wrote_frame st body room short p q c =
+    let w = framed st p q c in
+    record {
+      number = refl;
+      position = refl;
+      length_is = omega (arith, w.next);
+      fits = omega (arith, frame_fits st body short);
+      area = w.area;
+    }

@@ -11,8 +11,8 @@ use Rattle.frame.proofs.Placed.{passed, frame_number, body_place, which_stray}
 use Rattle.commands.specs.declared.request.Request.{Request}
 use Rattle.commands.specs.Request.{parts_of}
 use Rattle.numbers.proofs.Where.{false_true}
-use Rattle.reply_reader.specs.declared.reader.Carried.{Carried}
-use Rattle.reply_reader.specs.declared.reader.Carried.TheVariants as carried
+use Rattle.std.specs.Prelude.{Option, None, Some}
+use Rattle.replies.specs.declared.reply.Outcome.{Outcome}
 use Rattle.bodies.specs.Body.{Judged}
 use Rattle.bodies.specs.Body as judged
 use Rattle.bodies.specs.Body.{read_body}
@@ -107,11 +107,11 @@ module _ (s : List ℕ) where
   request_told false e = frames_told s
 
   reply_told :
-      (t u : Bool) (c : Carried) →
+      (t u : Bool) (c : Option Outcome) →
       let o : ReplyReading = cond t (cond u (from_carried c) (no_outcome 15 0)) (no_outcome frame.number (frame_position s frame.number)) in
       Told s o.number o.position
-  reply_told true true (carried.Outcome v) = nothing_told s 0 refl
-  reply_told true true carried.Nothing = nothing_told s 15 refl
+  reply_told true true (Some v) = nothing_told s 0 refl
+  reply_told true true None = nothing_told s 15 refl
   reply_told true false c = nothing_told s 15 refl
   reply_told false u c = frames_told s
 

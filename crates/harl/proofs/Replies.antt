@@ -3,7 +3,7 @@ use Prim.Native.Nat.{ℕ, ◌≤◌, ◌<◌, ◌+◌}
 use mathlib.Core.Path.{◌≡◌, refl, ap}
 use mathlib.Core.Bool.{Bool, true, false, cond}
 use mathlib.Core.List.{List, [], ◌∷◌, ◌++◌, append-nil, append_assoc}
-use mathlib.Core.Option.{some}
+use Rattle.std.specs.Prelude.{Some}
 use native.Mathlib.Omega.{arith}
 use borrow.Author.Tests.{ne_eqb, eqb-true, ltb-false, eqb-false, eq-eqb}
 use lib.Dec.{ltb, eqb}
@@ -27,7 +27,6 @@ use Rattle.replies.specs.declared.reply.Data.{Data}
 use Rattle.replies.specs.declared.reply.Data.TheVariants as held
 use Rattle.replies.specs.declared.reply.Outcome.{Outcome}
 use Rattle.replies.specs.declared.reply.Outcome.TheVariants as outcome
-use Rattle.reply_reader.specs.declared.reader.Carried.TheVariants as carried
 use Rattle.numbers.specs.Numbers.{numbers_text}
 use Rattle.numbers.proofs.Texts.{shortest_solid, numbers_skips, numbers_length}
 use Rattle.data.specs.Ranges.{in_ranges}
@@ -45,7 +44,7 @@ use Rattle.harl.proofs.Requests.{judged_ok, asked_ok}
 
 -- ---- a status
 
-status_back : (n : ℕ) → n ≤ 99 → read_status (two_digits n) ≡ carried.Outcome (outcome.Status n)
+status_back : (n : ℕ) → n ≤ 99 → read_status (two_digits n) ≡ Some (outcome.Status n)
 unfolding read_status digit
 status_back n h = ap as_status (read_two n (omega arith))
 
@@ -86,13 +85,13 @@ asked_is : (f : Form) (asked n : ℕ) (p : Payload) → number_fits f asked n �
 asked_is (Numbers k) asked n p e = refl
 asked_is Texts asked n p e = rw (eqb-true n asked e)
 
-content_back : (f : Form) (asked n : ℕ) (p : Payload) → asked < 10000 → number_fits f asked n ≡ true → in_ranges f p ≡ true → read_content f asked (fields (number_part f n ++ data_text f p)) ≡ some (kept f p)
+content_back : (f : Form) (asked n : ℕ) (p : Payload) → asked < 10000 → number_fits f asked n ≡ true → in_ranges f p ≡ true → read_content f asked (fields (number_part f n ++ data_text f p)) ≡ Some (kept f p)
 content_back (Numbers k) asked n p h e r = data_back (Numbers k) p r
 content_back Texts asked n p h e r =
     let q = eqb-true n asked e in
     rw (append_assoc (shortest n) (32 ∷ []) (data_text Texts p), fields_cons (shortest n) (data_text Texts p) (shortest_solid n), read_shortest n (omega arith), e) (data_back Texts p r)
 
-data_outcome_back : (d : Data) (asked : ℕ) → asked < 10000 → number_fits (content_of d).form asked (content_of d).number ≡ true → in_ranges (content_of d).form (content_of d).payload ≡ true → read_load_outcome (content_of d).form asked (content_text (content_of d)) ≡ carried.Outcome (outcome.Data d)
+data_outcome_back : (d : Data) (asked : ℕ) → asked < 10000 → number_fits (content_of d).form asked (content_of d).number ≡ true → in_ranges (content_of d).form (content_of d).payload ≡ true → read_load_outcome (content_of d).form asked (content_text (content_of d)) ≡ Some (outcome.Data d)
 unfolding read_load_outcome
 data_outcome_back d asked h e r =
     let c : Content = content_of d in
@@ -100,12 +99,12 @@ data_outcome_back d asked h e r =
 
 -- ---- the body
 
-status_outcome_back : (t : Bool) (f : Form) (asked n : ℕ) → n ≤ 99 → cond t (read_status (status_text t n)) (read_load_outcome f asked (status_text t n)) ≡ carried.Outcome (outcome.Status n)
+status_outcome_back : (t : Bool) (f : Form) (asked n : ℕ) → n ≤ 99 → cond t (read_status (status_text t n)) (read_load_outcome f asked (status_text t n)) ≡ Some (outcome.Status n)
 unfolding status_text read_load_outcome
 status_outcome_back true f asked n h = status_back n h
 status_outcome_back false f asked n h = status_back n h
 
-outcome_back : (rule : Rule) (asked : ℕ) (o : Outcome) → asked < 10000 → judge_outcome rule asked o ≡ 0 → read_outcome rule asked (outcome_text rule.store o) ≡ carried.Outcome o
+outcome_back : (rule : Rule) (asked : ℕ) (o : Outcome) → asked < 10000 → judge_outcome rule asked o ≡ 0 → read_outcome rule asked (outcome_text rule.store o) ≡ Some o
 unfolding judge_outcome outcome_text
 outcome_back rule asked (outcome.Data d) h e =
     let f = fitting rule asked d e in

@@ -3,7 +3,7 @@ use Prim.Native.Nat.{ℕ, ◌+◌, ◌≤◌, ◌<◌}
 use mathlib.Core.Path.{◌≡◌, refl, ap}
 use mathlib.Core.Bool.{Bool, true, false, cond, ◌||◌}
 use mathlib.Core.List.{List, [], ◌∷◌, ◌++◌, append-nil}
-use mathlib.Core.Option.{some}
+use Rattle.std.specs.Prelude.{Some}
 use native.Mathlib.Omega.{arith}
 use borrow.Author.Tests.{ltb-true, ltb-false, eqb-false}
 use lib.Dec.{ltb, eqb}
@@ -118,11 +118,11 @@ number_fields : (t : Bool) (f : Form) (n : ℕ) (p : Payload) → fields (shorte
 number_fields true f n p = fields_cons (shortest n) (data_text f p) (shortest_solid n)
 number_fields false f n p = rw (append-nil (shortest n)) (fields_one (shortest n) (shortest_solid n))
 
-given_back : (t : Bool) (f : Form) (p : Payload) → cond t (in_ranges f p) true ≡ true → data_shape t f (data_fields t f p) ≡ some (given t f p)
+given_back : (t : Bool) (f : Form) (p : Payload) → cond t (in_ranges f p) true ≡ true → data_shape t f (data_fields t f p) ≡ Some (given t f p)
 given_back true f p e = data_back f p e
 given_back false f p e = refl
 
-shape_back : (rule : Rule) (n : ℕ) (p : Payload) → n < 10000 → data_fit rule p ≡ true → read_shape rule (fields (shortest n ++ data_part rule.store rule.form p)) ≡ some (n, given rule.store rule.form p)
+shape_back : (rule : Rule) (n : ℕ) (p : Payload) → n < 10000 → data_fit rule p ≡ true → read_shape rule (fields (shortest n ++ data_part rule.store rule.form p)) ≡ Some (n, given rule.store rule.form p)
 unfolding read_shape
 shape_back rule n p h e =
     rw (number_fields rule.store rule.form n p, read_shortest n h, given_back rule.store rule.form p e)

@@ -1,17 +1,14 @@
 -- Requests and replies as whole frames (document 01, "Refusal numbers, in the order checked").
-use Rattle.std.specs.Prelude.{ℕ, ◌≤◌, ◌≡◌, cond, ◌||◌, List, [], ltb, eqb, length}
-use Rattle.std.proofs.Math.Option.{Option, none, some}
+use Rattle.std.specs.Prelude.{ℕ, ◌≤◌, ◌≡◌, cond, ◌||◌, List, [], ltb, eqb, length, Option, None, Some, Result, Ok, Err}
 use Rattle.std.proofs.lemmas.List.Edits.{sets}
 use Rattle.frame.specs.Frame.{Reading, read_frame, frame_position, frame_of}
 use Rattle.commands.specs.declared.table.Rule.{Rule}
 use Rattle.commands.specs.declared.request.Request.{Request}
 use Rattle.replies.specs.declared.reply.Outcome.{Outcome}
-use Rattle.reply_reader.specs.declared.reader.Carried.{Carried}
-use Rattle.reply_reader.specs.declared.reader.Carried.TheVariants as carried
+use Rattle.refusals.specs.declared.refusal.Refusal.{Refusal}
+use Rattle.refusals.specs.declared.refusal.Refused.{Refused}
+use Rattle.refusals.specs.Refusal.{number_of}
 use Rattle.harl.specs.declared.message.Asked.{Asked}
-use Rattle.harl.specs.declared.message.Asked.TheVariants as asked
-use Rattle.harl.specs.declared.message.Answered.{Answered}
-use Rattle.harl.specs.declared.message.Answered.TheVariants as answered
 use Rattle.harl.specs.declared.message.Sent.{Sent}
 use Rattle.commands.specs.Table.{rule_of}
 use Rattle.commands.specs.Request.{parts_of}
@@ -47,16 +44,16 @@ pub record RequestReading : Type 0 where
 
 -- accepted
 abbrev pub the_request : ℕ → Request → RequestReading
-the_request station r = record { number = 0; position = 0; station = station; request = some r }
+the_request station r = record { number = 0; position = 0; station = station; request = Some r }
 
 -- refused: the number and the position
 abbrev pub no_request : ℕ → ℕ → RequestReading
-no_request n p = record { number = n; position = p; station = 0; request = none }
+no_request n p = record { number = n; position = p; station = 0; request = None }
 
 -- the number, the position and the values of each case of the code's answer
-abbrev pub asked_values : Asked → RequestReading
-asked_values (asked.Accepted station r) = the_request station r
-asked_values (asked.Refused n p) = no_request n p
+abbrev pub asked_values : Result Asked Refused → RequestReading
+asked_values (Ok a) = the_request a.station a.request
+asked_values (Err e) = no_request (number_of e.refusal) e.position
 
 -- 9 to 12 of the body of a station's frame, which is a slice
 abbrev pub from_station : List ℕ → ℕ → Judged → RequestReading
@@ -89,6 +86,11 @@ message n bytes = record { number = n; position = 0; bytes = cond (eqb n 0) byte
 -- what is returned of a refusal, with which nothing is written
 abbrev pub unsent : ℕ → ℕ → Sent
 unsent n position = record { number = n; length = 0; position = position }
+
+-- what a writer returned, by numbers: the length of the frame, or the refusal
+abbrev pub sent_by : Result ℕ Refusal → Sent
+sent_by (Ok n) = record { number = 0; length = n; position = 0 }
+sent_by (Err e) = unsent (number_of e) 0
 
 -- the area holds the message's bytes at its front, and is untouched past them
 pub record Wrote (m : Message) (before : List ℕ) (sent : Sent) (after : List ℕ) : Type 0 where
@@ -123,21 +125,21 @@ pub record ReplyReading : Type 0 where
 
 -- accepted
 abbrev pub the_outcome : Outcome → ReplyReading
-the_outcome o = record { number = 0; position = 0; outcome = some o }
+the_outcome o = record { number = 0; position = 0; outcome = Some o }
 
 -- refused: the number and the position
 abbrev pub no_outcome : ℕ → ℕ → ReplyReading
-no_outcome n p = record { number = n; position = p; outcome = none }
+no_outcome n p = record { number = n; position = p; outcome = None }
 
 -- the number, the position and the values of each case of the code's answer
-abbrev pub answered_values : Answered → ReplyReading
-answered_values (answered.Accepted o) = the_outcome o
-answered_values (answered.Refused n p) = no_outcome n p
+abbrev pub answered_values : Result Outcome Refused → ReplyReading
+answered_values (Ok o) = the_outcome o
+answered_values (Err e) = no_outcome (number_of e.refusal) e.position
 
 -- a body that carries nothing is no reply to that request
-abbrev pub from_carried : Carried → ReplyReading
-from_carried (carried.Outcome o) = the_outcome o
-from_carried carried.Nothing = no_outcome 15 0
+abbrev pub from_carried : Option Outcome → ReplyReading
+from_carried (Some o) = the_outcome o
+from_carried None = no_outcome 15 0
 
 -- 15 REPLY: not the asked station, or not a reply to that request
 abbrev pub reply_in : List ℕ → Reading → ℕ → Request → ReplyReading

@@ -1,19 +1,17 @@
 -- What being in range says of values.
-use Prim.Native.Nat.{ℕ, zero, suc, ◌+◌, ◌≤◌, ◌<◌}
+use Prim.Native.Nat.{ℕ, zero, suc, ◌≤◌, ◌<◌}
 use mathlib.Core.Path.{◌≡◌, refl}
 use mathlib.Core.Bool.{Bool, true, false, not, ◌&&◌}
-use mathlib.Core.List.{List, [], ◌∷◌}
+use mathlib.Core.List.{List, ◌∷◌}
 use native.Mathlib.Omega.{arith}
-use native.Mathlib.Nat.{suc-add}
 use borrow.Author.Tests.{ltb-false, not-true}
 use lib.IntN.{ℤ, pos, negsuc, nat_abs}
-use lib.ListN.{length, get_or, take, drop, replicate, length-take, drop_of_length-le}
+use lib.ListN.{take, replicate}
 use lib.Signed.{lt_z}
 use Rattle.commands.specs.declared.table.Kind.{Kind}
 use Rattle.commands.specs.declared.table.Kind.TheVariants as kind
 use Rattle.commands.specs.declared.request.Row.{Row}
 use Rattle.commands.specs.Request.{one}
-use Rattle.numbers.specs.declared.field.Field.TheVariants as field
 use Rattle.numbers.specs.Ranges.{count_of, limits_of, in_range, each_in_range, all_in_range}
 
 pub and_left : (s t : Bool) → s && t ≡ true → s ≡ true
@@ -25,11 +23,6 @@ pub and_right : (s t : Bool) → s && t ≡ true → t ≡ true
 and_right true t e = e
 and_right false true e = refl
 and_right false false e = e
-
--- ---- what is malformed is no value
-
-pub no_value : {A : Type 0} {p : ℕ} {v : ℤ} → field.Malformed p ≡ field.Value v → A
-no_value e = let z : ◌≡◌ {A = ℕ} 0 1 = cc in absurd (omega arith)
 
 -- ---- a value in its kind's range
 
@@ -131,14 +124,3 @@ zeros_in k (suc m) (suc n) = rw (zero_in k) (zeros_in k m n)
 pub one_in : (k : Kind) (v : ℤ) → in_range k v ≡ true → all_in_range k (one v) ≡ true
 unfolding all_in_range each_in_range
 one_in k v e = rw ((some_value k).1, e) (zeros_in k (some_value k).0 3)
-
--- ---- a list up to n, from an index on
-
-pub left_at : (n : ℕ) (vs : List ℤ) (i : ℕ) → i < n → n ≤ length vs → drop i (take n vs) ≡ get_or vs i (pos 0) ∷ drop (i + 1) (take n vs)
-left_at zero vs i l h = absurd (omega arith)
-left_at (suc n) [] i l h = absurd (omega arith)
-left_at (suc n) (v ∷ vs) zero l h = refl
-left_at (suc n) (v ∷ vs) (suc i) l h = rw (suc-add i 1) (left_at n vs i (omega arith) (omega arith))
-
-pub none_left : (n : ℕ) (vs : List ℤ) (i : ℕ) → n ≤ i → drop i (take n vs) ≡ []
-none_left n vs i h = drop_of_length-le (take n vs) {i = i} (omega (arith, length-take n vs))

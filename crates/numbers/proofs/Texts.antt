@@ -4,8 +4,7 @@ use Prim.Native.Nat.{ℕ, suc, ◌+◌, ◌*◌, ◌≤◌, ◌<◌}
 use mathlib.Core.Path.{◌≡◌, refl, sym, ap}
 use mathlib.Core.Bool.{Bool, true, false}
 use mathlib.Core.List.{List, [], ◌∷◌, map}
-use mathlib.Core.Option
-use mathlib.Core.Option.{some}
+use Rattle.std.specs.Prelude.{Some, option_map}
 use native.Mathlib.Omega.{arith}
 use lib.Dec.{eqb}
 use lib.IntN.{ℤ, pos, nat_abs}
@@ -52,18 +51,18 @@ field_solid = field_skips (λ b. eqb b 32) digit_solid refl refl
 pub shortest_solid : (v : ℕ) → Skips (λ b. eqb b 32) (shortest v)
 shortest_solid = shortest_skips (λ b. eqb b 32) digit_solid
 
-hundredths_back : (k : Kind) (v : ℤ) → in_range k v ≡ true → read_hundredths (hundredths_text v) ≡ some v
+hundredths_back : (k : Kind) (v : ℤ) → in_range k v ≡ true → read_hundredths (hundredths_text v) ≡ Some v
 hundredths_back k v e = read_hundredths_lem v (in_small k v e)
 
 -- a whole number, in either form
-whole_back : (k : Kind) (s : List ℕ) (v : ℤ) → (limits_of k).low ≡ pos 0 → in_range k v ≡ true → (digits_of v < 10000 → read_whole s ≡ some (digits_of v)) → read_whole_field s ≡ some v
+whole_back : (k : Kind) (s : List ℕ) (v : ℤ) → (limits_of k).low ≡ pos 0 → in_range k v ≡ true → (digits_of v < 10000 → read_whole s ≡ Some (digits_of v)) → read_whole_field s ≡ Some v
 whole_back k s v low e read =
     let h = in_digits k v low e in
     let d : digits_of v ≡ nat_abs v = omega arith in
-    rw (read (omega arith), d) (ap some (sym (in_nat k v low e)))
+    rw (read (omega arith), d) (ap Some (sym (in_nat k v low e)))
 
 -- a value in range reads back
-field_back : (k : Kind) (v : ℤ) → in_range k v ≡ true → read_field k (field_text k v) ≡ some v
+field_back : (k : Kind) (v : ℤ) → in_range k v ≡ true → read_field k (field_text k v) ≡ Some v
 field_back kind.Timer v e = hundredths_back kind.Timer v e
 field_back kind.Register v e = whole_back kind.Register _ v refl e (read_padded (digits_of v))
 field_back kind.Row v e = hundredths_back kind.Row v e
@@ -71,7 +70,7 @@ field_back kind.Signal v e = whole_back kind.Signal _ v refl e (read_shortest (d
 field_back kind.Port v e = whole_back kind.Port _ v refl e (read_shortest (digits_of v))
 
 -- and so do values in range
-values_back : (k : Kind) (vs : List ℤ) → each_in_range k vs ≡ true → Each (λ v. read_field k (field_text k v) ≡ some v) vs
+values_back : (k : Kind) (vs : List ℤ) → each_in_range k vs ≡ true → Each (λ v. read_field k (field_text k v) ≡ Some v) vs
 values_back k [] e = tt
 values_back k (v ∷ vs) e = (field_back k v (head_in k v vs e), values_back k vs (tail_in k v vs e))
 
@@ -112,13 +111,13 @@ abbrev pub kept : Kind → Row → Row
 kept k r = row_of (values_of k r)
 
 -- data in range read back
-pub numbers_back : (k : Kind) (r : Row) → all_in_range k r ≡ true → read_numbers k (fields (numbers_text k r)) ≡ some (kept k r)
+pub numbers_back : (k : Kind) (r : Row) → all_in_range k r ≡ true → read_numbers k (fields (numbers_text k r)) ≡ Some (kept k r)
 unfolding numbers_text all_in_range
 numbers_back k r e = go (values_of k r) (count_values k r) (some_value k).1 e
   where
-    go : (vs : List ℤ) → length vs ≡ count_of k → count_of k ≡ suc (some_value k).0 → each_in_range k vs ≡ true → read_numbers k (fields (spaced (map (field_text k) vs))) ≡ some (row_of vs)
+    go : (vs : List ℤ) → length vs ≡ count_of k → count_of k ≡ suc (some_value k).0 → each_in_range k vs ≡ true → read_numbers k (fields (spaced (map (field_text k) vs))) ≡ Some (row_of vs)
     go [] n p e = absurd (omega arith)
     go (v ∷ vs) n p e =
         let solid = each_map (Skips (λ b. eqb b 32)) (field_text k) (field_solid k) (v ∷ vs) in
         rw (fields_spaced (field_text k v) (map (field_text k) vs) solid, ← n)
-        (ap (Option.map row_of) (fields_back (read_field k) (field_text k) (v ∷ vs) (values_back k (v ∷ vs) e)))
+        (ap (option_map row_of) (fields_back (read_field k) (field_text k) (v ∷ vs) (values_back k (v ∷ vs) e)))

@@ -1,25 +1,19 @@
 -- Data as text (document 01, "Commands"; for rows document 02, E6): as many fields as values, parted by one SP each.
-use Rattle.std.specs.Prelude.{ℕ, ◌%◌, Bool, true, List, map, ℤ, pos, nat_abs, length, drop, replicate}
-use Rattle.std.proofs.Math.Option
-use Rattle.std.proofs.Math.Option.{Option}
+use Rattle.std.specs.Prelude.{ℕ, ◌%◌, Bool, true, List, map, ℤ, pos, nat_abs, length, drop, replicate, Option, option_map}
 use Rattle.text.specs.Whole.{read_whole, shortest, padded}
 use Rattle.text.specs.Hundredths.{read_hundredths, hundredths_text}
-use Rattle.text.specs.Read.{Read, value, wrong, read_at}
+use Rattle.text.specs.Read.{Read, read_at}
 use Rattle.frame.specs.Fields.{fields, placed, read_fields, reads_as, spaced, offending}
 use Rattle.commands.specs.declared.table.Kind.{Kind}
 use Rattle.commands.specs.declared.table.Kind.TheVariants as kind
 use Rattle.commands.specs.declared.request.Row.{Row}
 use Rattle.commands.specs.Request.{row_of}
-use Rattle.numbers.specs.declared.field.Field.{Field}
-use Rattle.numbers.specs.declared.field.Field.TheVariants as field
-use Rattle.numbers.specs.declared.numbers.Values.{Values}
-use Rattle.numbers.specs.declared.numbers.Values.TheVariants.{Of, Malformed}
 use Rattle.numbers.specs.Ranges.{count_of, values_of, in_range}
 
 -- ---- one field
 
 abbrev pub read_whole_field : List ℕ → Option ℤ
-read_whole_field s = Option.map pos (read_whole s)
+read_whole_field s = option_map pos (read_whole s)
 
 -- timers and rows are hundredths, all else are whole numbers; none for a text in another form
 abbrev pub read_field : Kind → List ℕ → Option ℤ
@@ -28,11 +22,6 @@ read_field kind.Row = read_hundredths
 read_field kind.Register = read_whole_field
 read_field kind.Signal = read_whole_field
 read_field kind.Port = read_whole_field
-
--- what the reader's answer says
-abbrev pub field_answer : Field → Read ℤ
-field_answer (field.Value v) = value v
-field_answer (field.Malformed p) = wrong p
 
 -- the digits of a whole value, which has at most 4
 abbrev pub digits_of : ℤ → ℕ
@@ -50,7 +39,7 @@ field_text kind.Port v = shortest (digits_of v)
 
 -- the fields as data of a kind
 abbrev pub read_numbers : Kind → List (List ℕ) → Option Row
-read_numbers k fs = Option.map row_of (read_fields (read_field k) (count_of k) fs)
+read_numbers k fs = option_map row_of (read_fields (read_field k) (count_of k) fs)
 
 -- ---- where data are wrong (document 02, E9)
 
@@ -64,11 +53,6 @@ number_ranges k = replicate (count_of k) (λ f. reads_as (in_range k) (read_fiel
 -- the numbers that stand at an index of a text, which ETX follows
 abbrev pub numbers_at : Kind → List ℕ → ℕ → Read Row
 numbers_at k s i = read_at (offending (length s) (number_forms k) (placed i (drop i s))) (read_numbers k (fields (drop i s)))
-
--- what the reader's answer says
-abbrev pub values_answer : Values → Read Row
-values_answer (Of r) = value r
-values_answer (Malformed p) = wrong p
 
 -- ---- writing
 

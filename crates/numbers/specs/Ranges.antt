@@ -1,6 +1,7 @@
 -- The values of numbers as data, and their ranges (document 01, "Commands"; for rows document 02, E6).
-use Rattle.std.specs.Prelude.{ℕ, Bool, true, not, ◌&&◌, List, [], ◌∷◌, ℤ, pos, negsuc, take}
+use Rattle.std.specs.Prelude.{ℕ, Bool, not, ◌&&◌, List, ℤ, pos, negsuc, take}
 use Rattle.std.specs.Int.Signed.{lt_z}
+use Rattle.std.specs.List.{list_all}
 use Rattle.commands.specs.declared.table.Kind.{Kind}
 use Rattle.commands.specs.declared.table.Kind.TheVariants as kind
 use Rattle.commands.specs.declared.request.Row.{Row}
@@ -33,8 +34,7 @@ in_range k v = not (lt_z v (limits_of k).low) && not (lt_z (limits_of k).high v)
 
 -- each of these values
 unfoldable pub each_in_range : Kind → List ℤ → Bool
-each_in_range k [] = true
-each_in_range k (v ∷ vs) = in_range k v && each_in_range k vs
+each_in_range k vs = list_all (in_range k) vs
 
 -- every value of the data
 unfoldable pub all_in_range : Kind → Row → Bool

@@ -1,52 +1,37 @@
 // The fields of data, read and written from left to right.
 ghost use Rattle.std.specs.Prelude.{◌≡◌, ◌≤◌, ◌+◌, length};
 ghost use Rattle.text.specs.Put.{Put};
-ghost use Rattle.numbers.specs.Numbers.{numbers_at, values_answer, numbers_text};
+ghost use Rattle.numbers.specs.Numbers.{numbers_at, numbers_text};
 
-use crate::field::{Field, put_field, read_field};
+use crate::field::{put_field, read_field};
 use crate::ranges::count_of;
-use commands::request::{Row, fields_of, row_of};
+use commands::request::Row;
 use commands::table::Kind;
+use text::field::{At, Malformed};
 use text::put::{Cursor, put_byte};
 
-// What fields are as data; where they are not, with the position where they are wrong.
-#[derive(Clone, Copy)]
-pub enum Values {
-    Of(Row),
-    Malformed(usize),
-}
-
-// Reads the fields of s from index `from` on as data of a kind. Not data: at the first malformed field; if all are in
-// their form, at the first surplus field, or at the end of s where fields lack.
-pub fn read_numbers(kind: Kind, s: &[u8], from: usize) -> Values
-    requires { from ≤ length s.now }
-    ensures { values_answer result ≡ numbers_at kind s.now from }
+// Reads the fields from an index on as data of a kind. Not data: at the first malformed field; if all are in their form, at
+// the first surplus field, or at the end of the text where fields lack.
+pub fn read_numbers(kind: Kind, from: At<'_>) -> Result<Row, Malformed>
+    ensures { result ≡ numbers_at kind from.entry.text.now from.entry.index }
 {
-    let count = count_of(kind);
+    let text = from.text;
     let mut values = [0; 4];
-    let mut next = from;
-    let mut i = 0;
-    while i < count {
-        if s.len() < next {
-            return Values::Malformed(s.len());
+    let mut next = from.index;
+    for i in 0..count_of(kind) {
+        if text.len() < next {
+            return Err(Malformed {
+                position: text.len(),
+            });
         }
-        let read = read_field(kind, s, next);
-        let field = read.field;
-        match field {
-            Field::Value(v) => {
-                values[i] = v;
-                next = read.end + 1;
-                i += 1;
-            }
-            Field::Malformed(position) => {
-                return Values::Malformed(position);
-            }
-        }
+        let field = read_field(kind, At { text, index: next })?;
+        values[i] = field.value;
+        next = field.end + 1;
     }
-    if next <= s.len() {
-        return Values::Malformed(next);
+    if next <= text.len() {
+        return Err(Malformed { position: next });
     }
-    Values::Of(row_of(values))
+    Ok(Row::from(values))
 }
 
 // Writes data of a kind.
@@ -54,14 +39,11 @@ pub fn put_numbers(area: &mut [u8], to: Cursor, kind: Kind, row: Row) -> Cursor
     requires { to.at + length (numbers_text kind row) ≤ length area.old }
     ensures { Put area.old to (numbers_text kind row) result area.new }
 {
-    let values = fields_of(row);
-    let count = count_of(kind);
+    let values: [i32; 4] = row.into();
     let mut end = put_field(area, to, kind, values[0]);
-    let mut i = 1;
-    while i < count {
+    for v in &values[1..count_of(kind)] {
         let from = put_byte(area, end, b' ');
-        end = put_field(area, from, kind, values[i]);
-        i += 1;
+        end = put_field(area, from, kind, *v);
     }
     end
 }

@@ -2,7 +2,7 @@
 ghost use Rattle.std.specs.Prelude.{◌≡◌};
 ghost use Rattle.numbers.specs.Ranges.{count_of, limits_of, in_range, all_in_range};
 
-use commands::request::{Row, fields_of};
+use commands::request::Row;
 use commands::table::Kind;
 
 // The least and the greatest value of a kind.
@@ -17,11 +17,8 @@ pub fn count_of(kind: Kind) -> usize
     ensures { result ≡ count_of kind }
 {
     match kind {
-        Kind::Timer => 1,
-        Kind::Register => 1,
         Kind::Row => 4,
-        Kind::Signal => 1,
-        Kind::Port => 1,
+        Kind::Timer | Kind::Register | Kind::Signal | Kind::Port => 1,
     }
 }
 
@@ -47,28 +44,14 @@ fn in_range(kind: Kind, v: i32) -> bool
     ensures { result ≡ in_range kind v }
 {
     let limits = limits_of(kind);
-    if v < limits.low {
-        return false;
-    }
-    if limits.high < v {
-        return false;
-    }
-    true
+    limits.low <= v && v <= limits.high
 }
 
 // Whether every value of the data is.
+#[tactic(auto, unfolding(crate::specs::Ranges::all_in_range, crate::specs::Ranges::each_in_range))]
 pub fn all_in_range(kind: Kind, row: Row) -> bool
     ensures { result ≡ all_in_range kind row }
 {
-    let values = fields_of(row);
-    let count = count_of(kind);
-    let mut i = 0;
-    while i < count {
-        if in_range(kind, values[i]) {
-            i += 1;
-        } else {
-            return false;
-        }
-    }
-    true
+    let values: [i32; 4] = row.into();
+    values[..count_of(kind)].iter().all(|v| in_range(kind, *v))
 }

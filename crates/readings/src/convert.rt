@@ -56,6 +56,7 @@ fn count(n: i32) -> Converted
     Converted::Reading(Reading::Count(n as f64))
 }
 
+// Three arms for counts: the toolchain proves no or-pattern that binds a signed number beside an arm with a call.
 fn convert_data(held: Data) -> Converted
     ensures { result ≡ convert_data held }
 {

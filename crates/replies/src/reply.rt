@@ -2,11 +2,13 @@
 ghost use Rattle.std.specs.Prelude.{◌≡◌, ◌≤◌, ◌+◌, length};
 ghost use Rattle.text.specs.Put.{Put};
 ghost use Rattle.commands.specs.Request.{one};
+ghost use Rattle.refusals.specs.Refusal.{number_of};
 ghost use Rattle.replies.specs.Reply.{numbers_content, content_of, status_text, number_part, content_text, number_in, performed_text, refusal_text};
 
 use commands::request::{Payload, Row};
 use commands::table::{Form, Kind};
 use data::data::put_data;
+use refusals::refusal::Refusal;
 use steps::step::Step;
 use text::put::{Cursor, put_byte, put_bytes};
 use text::whole::{put_shortest, put_two_digits};
@@ -56,15 +58,7 @@ fn numbers(kind: Kind, row: Row) -> Content
 fn single(kind: Kind, v: i32) -> Content
     ensures { result ≡ numbers_content kind (one v) }
 {
-    numbers(
-        kind,
-        Row {
-            x: v,
-            y: 0,
-            z: 0,
-            w: 0,
-        },
-    )
+    numbers(kind, Row::from(v))
 }
 
 // The form of data, and what they are.
@@ -86,6 +80,7 @@ pub fn content_of(held: Data) -> Content
 }
 
 // Writes a status: two digits, after "E" for an LN; of 100 or more, the last two digits.
+#[tactic(auto, unfolding(crate::specs::Reply::status_text, text::specs::Whole::digit))]
 pub fn put_status(area: &mut [u8], to: Cursor, store: bool, n: u8) -> Cursor
     requires { to.at + length (status_text store n) ≤ length area.old }
     ensures { Put area.old to (status_text store n) result area.new }
@@ -101,14 +96,15 @@ pub fn put_status(area: &mut [u8], to: Cursor, store: bool, n: u8) -> Cursor
 }
 
 // Writes what answers a refusal: of a name that is no command's, or of an LN or SN name.
-pub fn put_refusal(area: &mut [u8], to: Cursor, n: u8, store: bool) -> Cursor
+#[tactic(auto, using(crate::proofs::Texts::status_length))]
+pub fn put_refusal(area: &mut [u8], to: Cursor, refusal: Refusal, store: bool) -> Cursor
     requires { to.at + 3 ≤ length area.old }
-    ensures { Put area.old to (refusal_text n store) result area.new }
+    ensures { Put area.old to (refusal_text (number_of refusal) store) result area.new }
 {
-    if n == 9 {
+    if refusal == Refusal::Command {
         return put_bytes(area, to, &UNKNOWN);
     }
-    put_status(area, to, store, n)
+    put_status(area, to, store, refusal.number())
 }
 
 // Writes the number and SP that stand before the texts of a step.
@@ -131,10 +127,8 @@ pub fn put_held(area: &mut [u8], to: Cursor, held: Data) -> Cursor
     ensures { Put area.old to (content_text (content_of held)) result area.new }
 {
     let content = content_of(held);
-    let form = content.form;
-    let payload = content.payload;
-    let from = put_number(area, to, form, content.number);
-    put_data(area, from, form, payload)
+    let from = put_number(area, to, content.form, content.number);
+    put_data(area, from, content.form, content.payload)
 }
 
 // The refusal number of a request that was performed: a status is its own, and data have 0.

@@ -1,6 +1,5 @@
 -- What the body of a reply is read as (document 01, "The tables and replies"; for steps document 02, E3).
-use Rattle.std.specs.Prelude.{ℕ, cond, List, [], ◌∷◌, eqb, length, get_or, drop}
-use Rattle.std.proofs.Math.Option.{Option, none, some}
+use Rattle.std.specs.Prelude.{ℕ, cond, List, [], ◌∷◌, eqb, length, get_or, drop, Option, None, Some}
 use Rattle.text.specs.Whole.{read_whole}
 use Rattle.frame.specs.Fields.{fields, reads_as}
 use Rattle.commands.specs.declared.table.Kind.{Kind}
@@ -12,9 +11,8 @@ use Rattle.commands.specs.declared.request.Row.{Row}
 use Rattle.commands.specs.declared.request.Payload.{Payload}
 use Rattle.replies.specs.declared.reply.Data.{Data}
 use Rattle.replies.specs.declared.reply.Data.TheVariants as held
+use Rattle.replies.specs.declared.reply.Outcome.{Outcome}
 use Rattle.replies.specs.declared.reply.Outcome.TheVariants as outcome
-use Rattle.reply_reader.specs.declared.reader.Carried.{Carried}
-use Rattle.reply_reader.specs.declared.reader.Carried.TheVariants as carried
 use Rattle.commands.specs.Request.{row_in, step_in}
 use Rattle.data.specs.Ranges.{in_ranges}
 use Rattle.data.specs.Data.{read_data}
@@ -32,29 +30,29 @@ abbrev pub data_of : Form → ℕ → Payload → Data
 data_of (Numbers k) n p = numbers_of k (row_in p)
 data_of Texts n p = held.Step n (step_in p)
 
-abbrev pub as_status : Option ℕ → Carried
-as_status (some v) = carried.Outcome (outcome.Status v)
-as_status none = carried.Nothing
+abbrev pub as_status : Option ℕ → Option Outcome
+as_status (Some v) = Some (outcome.Status v)
+as_status None = None
 
 -- any two digits
-unfoldable pub read_status : List ℕ → Carried
-read_status s = cond (eqb (length s) 2) (as_status (read_whole s)) carried.Nothing
+unfoldable pub read_status : List ℕ → Option Outcome
+read_status s = cond (eqb (length s) 2) (as_status (read_whole s)) None
 
 -- the fields of a reply as data: before the texts of a step stands the asked number
 abbrev pub read_content : Form → ℕ → List (List ℕ) → Option Payload
 read_content (Numbers k) asked fs = read_data (Numbers k) fs
-read_content Texts asked [] = none
-read_content Texts asked (f ∷ fs) = cond (reads_as (λ n. eqb n asked) (read_whole f)) (read_data Texts fs) none
+read_content Texts asked [] = None
+read_content Texts asked (f ∷ fs) = cond (reads_as (λ n. eqb n asked) (read_whole f)) (read_data Texts fs) None
 
 -- data within the command's data range
-abbrev pub as_data : Form → ℕ → Option Payload → Carried
-as_data f asked (some p) = cond (in_ranges f p) (carried.Outcome (outcome.Data (data_of f asked p))) carried.Nothing
-as_data f asked none = carried.Nothing
+abbrev pub as_data : Form → ℕ → Option Payload → Option Outcome
+as_data f asked (Some p) = cond (in_ranges f p) (Some (outcome.Data (data_of f asked p))) None
+as_data f asked None = None
 
 -- "E" and any two digits, or data
-unfoldable pub read_load_outcome : Form → ℕ → List ℕ → Carried
+unfoldable pub read_load_outcome : Form → ℕ → List ℕ → Option Outcome
 read_load_outcome f asked s = cond (eqb (get_or s 0 0) 69) (read_status (drop 1 s)) (as_data f asked (read_content f asked (fields s)))
 
 -- what the body of a reply to a command carries, which was sent with a number
-abbrev pub read_outcome : Rule → ℕ → List ℕ → Carried
+abbrev pub read_outcome : Rule → ℕ → List ℕ → Option Outcome
 read_outcome rule asked s = cond rule.store (read_status s) (read_load_outcome rule.form asked s)

@@ -4,7 +4,7 @@ use mathlib.Core.Path.{◌≡◌, refl}
 use mathlib.Core.Bool.{Bool, true, false, cond}
 use mathlib.Core.List.{List}
 use mathlib.Core.Logic.{inl, inr}
-use mathlib.Core.Option.{Option, none, some}
+use Rattle.std.specs.Prelude.{Option, None, Some}
 use lib.Dec.{eqb}
 use lib.ListN.{length, get_or, drop}
 use Rattle.text.specs.Whole.{read_whole}
@@ -16,9 +16,8 @@ use Rattle.commands.specs.declared.table.Form.TheVariants.{Numbers, Texts}
 use Rattle.commands.specs.declared.table.Rule.{Rule}
 use Rattle.commands.specs.declared.request.Payload.{Payload}
 use Rattle.commands.specs.Request.{parts_of}
-use Rattle.reply_reader.specs.declared.reader.Carried.{Carried}
-use Rattle.reply_reader.specs.declared.reader.Carried.TheVariants as carried
 use Rattle.data.specs.Ranges.{in_ranges}
+use Rattle.replies.specs.declared.reply.Outcome.{Outcome}
 use Rattle.replies.specs.declared.reply.Outcome.TheVariants as outcome
 use Rattle.reply_reader.specs.Reader.{data_of, as_status, read_status, read_content, as_data, read_load_outcome, read_outcome}
 use Rattle.harl.specs.Message.{ReplyReading, rule_for, judge_asked, from_carried, reply_in, no_outcome, read_reply}
@@ -35,23 +34,23 @@ either : (rule : Rule) (b : Bool) (x y : ReplyReading) → Fine rule x → Fine 
 either rule true x y p q = p
 either rule false x y p q = q
 
-either_carried : (rule : Rule) (b : Bool) (x y : Carried) → Fine rule (from_carried x) → Fine rule (from_carried y) → Fine rule (from_carried (cond b x y))
+either_carried : (rule : Rule) (b : Bool) (x y : Option Outcome) → Fine rule (from_carried x) → Fine rule (from_carried y) → Fine rule (from_carried (cond b x y))
 either_carried rule true x y p q = p
 either_carried rule false x y p q = q
 
 status_fine : (rule : Rule) (s : List ℕ) → Fine rule (from_carried (read_status s))
 unfolding read_status
 status_fine rule s =
-    either_carried rule (eqb (length s) 2) (as_status (read_whole s)) carried.Nothing (go (read_whole s)) tt
+    either_carried rule (eqb (length s) 2) (as_status (read_whole s)) None (go (read_whole s)) tt
   where
     go : (v : Option ℕ) → Fine rule (from_carried (as_status v))
-    go (some n) = inr refl
-    go none = tt
+    go (Some n) = inr refl
+    go None = tt
 
-data_kind : (rule : Rule) (n : ℕ) (p : Payload) → rule.store ≡ false → Fine rule (from_carried (carried.Outcome (outcome.Data (data_of rule.form n p))))
+data_kind : (rule : Rule) (n : ℕ) (p : Payload) → rule.store ≡ false → Fine rule (from_carried (Some (outcome.Data (data_of rule.form n p))))
 data_kind rule n p h = rw h (go rule.form)
   where
-    go : (f : Form) → Answers (record { store = false; form = f; first = 0; last = 0 }) (converted (from_carried (carried.Outcome (outcome.Data (data_of f n p))))).carries
+    go : (f : Form) → Answers (record { store = false; form = f; first = 0; last = 0 }) (converted (from_carried (Some (outcome.Data (data_of f n p))))).carries
     go (Numbers kind.Timer) = inl refl
     go (Numbers kind.Register) = inl refl
     go (Numbers kind.Row) = inl refl
@@ -60,9 +59,9 @@ data_kind rule n p h = rw h (go rule.form)
     go Texts = inl refl
 
 data_fine : (rule : Rule) (n : ℕ) (o : Option Payload) → rule.store ≡ false → Fine rule (from_carried (as_data rule.form n o))
-data_fine rule n none h = tt
-data_fine rule n (some p) h =
-    either_carried rule (in_ranges rule.form p) (carried.Outcome (outcome.Data (data_of rule.form n p))) carried.Nothing (data_kind rule n p h) tt
+data_fine rule n None h = tt
+data_fine rule n (Some p) h =
+    either_carried rule (in_ranges rule.form p) (Some (outcome.Data (data_of rule.form n p))) None (data_kind rule n p h) tt
 
 load_fine : (rule : Rule) (n : ℕ) (s : List ℕ) → rule.store ≡ false → Fine rule (from_carried (read_load_outcome rule.form n s))
 unfolding read_load_outcome

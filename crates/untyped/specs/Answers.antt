@@ -1,6 +1,5 @@
 -- Which kind of reading answers which request, whatever the slice (proved in proofs/Answers.antt).
-use Rattle.std.specs.Prelude.{ℕ, ◌≡◌, cond, List, ◌⊎◌}
-use Rattle.std.proofs.Math.Option.{Option, none, some}
+use Rattle.std.specs.Prelude.{ℕ, ◌≡◌, cond, List, ◌⊎◌, Option, None, Some}
 use Rattle.commands.specs.declared.table.Kind.TheVariants.{Timer, Register, Row, Signal, Port}
 use Rattle.commands.specs.declared.table.Form.{Form}
 use Rattle.commands.specs.declared.table.Form.TheVariants.{Numbers, Texts}
@@ -26,8 +25,8 @@ kind_for rule = cond rule.store 4 (kind_of rule.form)
 
 -- the kind that the request asks for, or a status
 abbrev pub Answers : Rule → Option Converted → Type 0
-Answers rule none = Unit {0}
-Answers rule (some c) = ((carried_by c).kind ≡ kind_for rule) ⊎ ((carried_by c).kind ≡ 4)
+Answers rule None = Unit {0}
+Answers rule (Some c) = ((carried_by c).kind ≡ kind_for rule) ⊎ ((carried_by c).kind ≡ 4)
 
 abbrev pub KindsAsked : Type 0
 KindsAsked = (s : List ℕ) (station : ℕ) (r : Request) → Answers (rule_for r) (converted (read_reply s station r)).carries

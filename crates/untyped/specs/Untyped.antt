@@ -1,10 +1,7 @@
 -- A reply read for a program without typed values: its request by a code, a number and data, and what it carries by
 -- numbers.
-use Rattle.std.specs.Prelude.{ℕ, zero, suc, cond, ◌||◌, List, [], ◌∷◌, ℤ, ltb, eqb, replicate, Float}
-use Rattle.std.proofs.Math.Option.{Option, none, some}
+use Rattle.std.specs.Prelude.{ℕ, cond, ◌||◌, List, [], ◌∷◌, ℤ, ltb, eqb, slice_get, replicate, Float, Option, None, Some}
 use Rattle.names.specs.declared.command.Command.{Command}
-use Rattle.names.specs.declared.command.Named.{Named}
-use Rattle.names.specs.declared.command.Named.TheVariants.{Is, Unknown}
 use Rattle.steps.specs.Step.{packed, step_from}
 use Rattle.commands.specs.declared.table.Form.{Form}
 use Rattle.commands.specs.declared.table.Form.TheVariants as form
@@ -36,20 +33,18 @@ payload_of form.Texts values texts = payload.Texts (step_from texts)
 abbrev pub payload_for : Command → List ℤ → List ℕ → Payload
 payload_for c values texts = payload_of (rule_of c).form values texts
 
--- a command by its code, its place in a list of commands
-unfoldable pub command_at : List Command → ℕ → Named
-command_at [] n = Unknown
-command_at (c ∷ cs) zero = Is c
-command_at (c ∷ cs) (suc n) = command_at cs n
+-- a command by its code, its place in the list of commands
+abbrev pub command_at : ℕ → Option Command
+command_at n = slice_get commands n
 
 -- 9 COMMAND for a code that is no command's, after 7 STATION
-abbrev pub read_as : List ℕ → ℕ → ℕ → List ℤ → List ℕ → Named → ConvertedReading
-read_as s station number values texts (Is c) = convertedReply (read_reply s station (builds c number (payload_for c values texts)))
-read_as s station number values texts Unknown = refused (cond (eqb station 0 || ltb 99 station) 7 9) 0
+abbrev pub read_as : List ℕ → ℕ → ℕ → List ℤ → List ℕ → Option Command → ConvertedReading
+read_as s station number values texts (Some c) = convertedReply (read_reply s station (builds c number (payload_for c values texts)))
+read_as s station number values texts None = refused (cond (eqb station 0 || ltb 99 station) 7 9) 0
 
 -- the reply to the request of a code
 abbrev pub read_coded : List ℕ → ℕ → ℕ → ℕ → List ℤ → List ℕ → ConvertedReading
-read_coded s station code number values texts = read_as s station number values texts (command_at commands code)
+read_coded s station code number values texts = read_as s station number values texts (command_at code)
 
 -- ---- what the reply carries
 
@@ -76,8 +71,8 @@ refused_with n p =
     record { number = n; position = p; kind = 0; status = 0; doubles = replicate 4 plusZero; texts = replicate 5 0 }
 
 abbrev pub numbers_in : ℕ → ℕ → Option Converted → Numbers
-numbers_in n p (some c) = carried_by c
-numbers_in n p none = refused_with n p
+numbers_in n p (Some c) = carried_by c
+numbers_in n p None = refused_with n p
 
 abbrev pub numbers_of : ConvertedReading → Numbers
 numbers_of r = numbers_in r.number r.position r.carries

@@ -2,21 +2,21 @@
 // what the reply carries by numbers.
 ghost use Rattle.std.specs.Prelude.{◌≡◌};
 ghost use Rattle.readings.specs.Reply.{read_values};
-ghost use Rattle.names.specs.Command.{commands};
 ghost use Rattle.untyped.specs.Untyped.{command_at, payload_for, read_coded, carrying, carried_by, numbers_of, outcome_for, doubles_for};
 ghost use Rattle.readings.specs.declared.convert.Converted.TheVariants as converted;
 
-use commands::request::{Parts, Payload, Row, request_of, row_of};
+use commands::request::{Parts, Payload, Row};
 use commands::table::{Form, rule_of};
-use names::command::{Command, Named};
+use names::command::{COMMANDS, Command};
 use readings::convert::{Converted, Reading, convert};
-use readings::reply::{ReadReply, read_converted};
+use readings::reply::read_converted;
+use refusals::refusal::{Refusal, Refused};
 use replies::reply::{Data, Outcome};
-use steps::step::{packed_of, step_of};
+use steps::step::Step;
 
 // The number and the position of a refusal, 0 for none; the kind of what the reply carries; and the status, the doubles
-// and the texts, 0 for each that there is none. The kinds are 0 for nothing, 1 for seconds, 2 for millimetres, 3 for a
-// count, 4 for a status and 5 for a step.
+// and the texts, 0 for each that there is none. C knows a reply by these numbers alone. The kinds are 0 for nothing, 1 for
+// seconds, 2 for millimetres, 3 for a count, 4 for a status and 5 for a step.
 #[derive(Clone, Copy)]
 pub struct Numbers {
     pub number: u8,
@@ -31,44 +31,17 @@ pub struct Numbers {
 fn payload_for(command: Command, values: [i32; 4], texts: [u64; 5]) -> Payload
     ensures { result ≡ payload_for command values texts }
 {
-    let rule = rule_of(command);
-    let form = rule.form;
-    match form {
-        Form::Numbers(_) => Payload::Numbers(row_of(values)),
-        Form::Texts => Payload::Texts(step_of(texts)),
+    match rule_of(command).form {
+        Form::Numbers(_) => Payload::Numbers(values.into()),
+        Form::Texts => Payload::Texts(texts.into()),
     }
 }
 
 // The command of a code.
-fn command_at(code: u8) -> Named
-    ensures { result ≡ command_at commands code }
+fn command_at(code: u8) -> Option<Command>
+    ensures { result ≡ command_at code }
 {
-    let all = [
-        Command::Lnt,
-        Command::Snt,
-        Command::Lnd,
-        Command::Snd,
-        Command::Lnl,
-        Command::Snl,
-        Command::Lnib,
-        Command::Lnob,
-        Command::Snob,
-        Command::Lnid,
-        Command::Lnod,
-        Command::Snod,
-        Command::Lnbb,
-        Command::Snbb,
-        Command::Lnbd,
-        Command::Snbd,
-        Command::Lna,
-        Command::Sna,
-    ];
-    let at = code as usize;
-    if at < 18 {
-        let command = all[at];
-        return Named::Is(command);
-    }
-    Named::Unknown
+    COMMANDS.get(code as usize).copied()
 }
 
 // Reads the reply to the request of a command's code. One that is no command's is refused with 9, after 7.
@@ -79,30 +52,21 @@ fn read_coded(
     number: u16,
     values: [i32; 4],
     texts: [u64; 5],
-) -> ReadReply
+) -> Result<Converted, Refused>
     ensures { read_values result ≡ read_coded slice.now station code number values texts }
 {
-    let named = command_at(code);
-    match named {
-        Named::Is(command) => {
-            let payload = payload_for(command, values, texts);
-            let parts = Parts {
-                command,
-                number,
-                payload,
-            };
-            read_converted(slice, station, request_of(parts))
+    let Some(command) = command_at(code) else {
+        if station == 0 || 99 < station {
+            return Err(Refusal::Station.into());
         }
-        Named::Unknown => {
-            if station == 0 {
-                return ReadReply::Refused(7, 0);
-            }
-            if 99 < station {
-                return ReadReply::Refused(7, 0);
-            }
-            ReadReply::Refused(9, 0)
-        }
-    }
+        return Err(Refusal::Command.into());
+    };
+    let parts = Parts {
+        command,
+        number,
+        payload: payload_for(command, values, texts),
+    };
+    read_converted(slice, station, parts.into())
 }
 
 // What a reply carries that is accepted.
@@ -135,18 +99,18 @@ fn converted_numbers(what: Converted) -> Numbers
     match what {
         Converted::Reading(reading) => reading_numbers(reading),
         Converted::Status(n) => carried(4, n, [0.0; 4], [0; 5]),
-        Converted::Step(_, step) => carried(5, 0, [0.0; 4], packed_of(step)),
+        Converted::Step(_, step) => carried(5, 0, [0.0; 4], step.into()),
     }
 }
 
-fn reply_numbers(reply: ReadReply) -> Numbers
+fn reply_numbers(reply: Result<Converted, Refused>) -> Numbers
     ensures { result ≡ numbers_of (read_values reply) }
 {
     match reply {
-        ReadReply::Accepted(what) => converted_numbers(what),
-        ReadReply::Refused(number, position) => Numbers {
-            number,
-            position,
+        Ok(what) => converted_numbers(what),
+        Err(refused) => Numbers {
+            number: refused.refusal.number(),
+            position: refused.position,
             kind: 0,
             status: 0,
             doubles: [0.0; 4],
@@ -175,17 +139,12 @@ pub fn read_doubles(
 fn outcome_for(kind: u8, row: Row) -> Outcome
     ensures { result ≡ outcome_for kind row }
 {
-    let v = row.x;
-    if kind == 1 {
-        return Outcome::Data(Data::Timer(v));
+    match kind {
+        1 => Outcome::Data(Data::Timer(row.x)),
+        2 => Outcome::Data(Data::Row(row)),
+        3 => Outcome::Data(Data::Register(row.x)),
+        _ => Outcome::Status(0),
     }
-    if kind == 2 {
-        return Outcome::Data(Data::Row(row));
-    }
-    if kind == 3 {
-        return Outcome::Data(Data::Register(v));
-    }
-    Outcome::Status(0)
 }
 
 // Converts data of a kind, of which millimetres have four values and any other the first; 0 for each double that there is
@@ -193,6 +152,5 @@ fn outcome_for(kind: u8, row: Row) -> Outcome
 pub fn convert_values(kind: u8, values: [i32; 4]) -> [f64; 4]
     ensures { result ≡ doubles_for kind values }
 {
-    let numbers = converted_numbers(convert(outcome_for(kind, row_of(values))));
-    numbers.doubles
+    converted_numbers(convert(outcome_for(kind, values.into()))).doubles
 }

@@ -31,14 +31,6 @@ overflow_sub-from c =
     let p = body_place _ c.requires.0 in
     omega (arith, p.room, ap length c.requires.1)
 
-pub slice_bounds-read_fields-end : goal.slice_bounds-read_fields-end
-slice_bounds-read_fields-end c =
-    sym (before_etx c.args.slice.now)
-
-pub read_fields-requires : goal.read_fields-requires
-read_fields-requires c =
-    omega (arith, before_etx c.args.slice.now)
-
 pub returns : goal.returns
 returns c =
     c.read_fields.ensures ∙ judged_is c.args.slice.now c.requires.0 (ap length c.requires.1)

@@ -2,22 +2,21 @@ use Prim.Native.Nat.{ℕ, ◌+◌, ◌-◌, ◌≤◌}
 use mathlib.Core.Path.{◌≡◌, refl, sym, ap, ◌∙◌}
 use mathlib.Core.Bool.{true, false, cond}
 use mathlib.Core.List.{List, [], ◌∷◌}
-use mathlib.Core.Option.{Option, none, some}
+use Rattle.std.specs.Prelude.{Option, None, Some, Ok, Err}
 use native.Mathlib.Omega.{arith}
-use borrow.Author.Rules.{rules}
 use lib.Dec.{eqb}
 use lib.ListN.{length, take, drop}
-use Rattle.text.specs.Read.{value, wrong, read_at}
+use Rattle.text.specs.declared.field.Field.{Field}
+use Rattle.text.specs.declared.field.Malformed.{Malformed}
+use Rattle.text.specs.Read.{read_at, field_with}
 use Rattle.text.specs.Scan.{field_at, end_at}
-use Rattle.text.proofs.Read.{was_read, was_wrong}
+use Rattle.text.proofs.Read.{was_read, was_wrong, field_read, field_wrong}
 use Rattle.text.proofs.Laws.{rest}
 use Rattle.frame.specs.Fields.{Placed, placed_more, placed, start_of, offending}
 use Rattle.frame.proofs.Laws.{first_is}
 use Rattle.frame.proofs.Placed.{placed_texts, placed_only, placed_next, offending_lack}
 use Rattle.names.specs.declared.command.Command.{Command}
 use Rattle.names.specs.declared.command.Command.TheVariants.{Sna}
-use Rattle.names.specs.declared.command.Named.{Named}
-use Rattle.names.specs.declared.command.Named.TheVariants.{Is, Unknown}
 use Rattle.commands.specs.declared.table.Rule.{Rule}
 use Rattle.commands.specs.declared.request.Payload.{Payload}
 use Rattle.names.specs.Command.{command_of}
@@ -35,15 +34,15 @@ use Rattle.bodies.proofs.body.read_fields.Goals as goal
 
 -- ---- what the fields after the name were read as
 
-start_some : (start : ℕ) (o : Option (ℕ × Payload)) {n d : ℕ} {p : Payload} → started start o ≡ some (n, (p, d)) → (o ≡ some (n, p)) × (d ≡ start)
-start_some start (some q) {n} {d} {p} e =
+start_some : (start : ℕ) (o : Option (ℕ × Payload)) {n d : ℕ} {p : Payload} → started start o ≡ Some (n, (p, d)) → (o ≡ Some (n, p)) × (d ≡ start)
+start_some start (Some q) {n} {d} {p} e =
     let w : ◌≡◌ {A = ℕ × (Payload × ℕ)} (q.0, (q.1, start)) (n, (p, d)) = cc in
-    (ap (λ (x : ℕ × (Payload × ℕ)). some (x.0, x.1.0)) w, sym (ap (λ (x : ℕ × (Payload × ℕ)). x.1.1) w))
-start_some start none e = no_some e
+    (ap (λ (x : ℕ × (Payload × ℕ)). Some (x.0, x.1.0)) w, sym (ap (λ (x : ℕ × (Payload × ℕ)). x.1.1) w))
+start_some start None e = no_some e
 
-start_none : (start : ℕ) (o : Option (ℕ × Payload)) → started start o ≡ none → o ≡ none
-start_none start (some q) e = no_some (sym e)
-start_none start none e = refl
+start_none : (start : ℕ) (o : Option (ℕ × Payload)) → started start o ≡ None → o ≡ None
+start_none start (Some q) e = no_some (sym e)
+start_none start None e = refl
 
 -- ---- the fields that stand at index i
 
@@ -60,17 +59,35 @@ module _ (s : List ℕ) (i : ℕ) where
   answer_is fs e = rw (← placed_texts i (drop i s), e)
 
   -- by the name, and the fields after it
-  abbrev named : List Placed → Named → Judged × ℕ
+  abbrev named : List Placed → Option Command → Judged × ℕ
   named fs c = judged_at (λ n. cond (eqb n 9) i (after_name_position (length s) c fs n)) (after_name c (texts fs))
 
-  unknown : command_of (field_at s i) ≡ Unknown → refused_at 9 false i ≡ promised
-  unfolding placed here
-  unknown w = sym (answer_is (here ∷ placed_more i (drop i s)) (rw (first_is (drop i s))) ∙ ap (named (placed_more i (drop i s))) w)
+  -- the name that the code reads, of the text from there on
+  abbrev name_at : Option (Field Command)
+  name_at = field_with command_of (take (length s - i) (drop i s)) 0
 
-  module _ (h : i ≤ length s) {k : Command} {e : ℕ} (w : command_of (field_at s i) ≡ Is k) (q : e ≡ end_at s i) {rule : Rule} (u : rule ≡ rule_of k) where
+  unknown : None ≡ name_at → refused_at 9 false i ≡ promised
+  unfolding placed here
+  unknown r =
+      let w : command_of (field_at s i) ≡ None = rw (rest i s) at (field_wrong command_of (take (length s - i) (drop i s)) 0 (ap (read_at 0) r)).0 in
+      sym (answer_is (here ∷ placed_more i (drop i s)) (rw (first_is (drop i s))) ∙ ap (named (placed_more i (drop i s))) w)
+
+  -- the name that was read ends at e
+  module _ (h : i ≤ length s) {name : Field Command} (r : Some name ≡ name_at) {rule : Rule} (u : rule ≡ rule_of name.value) where
+    abbrev k : Command
+    k = name.value
+
+    abbrev e : ℕ
+    e = i + name.end
+
+    was : (command_of (field_at s i) ≡ Some k) × (e ≡ end_at s i)
+    was =
+        let w = rw (rest i s) at (field_read command_of (take (length s - i) (drop i s)) 0 (ap (read_at 0) r)) in
+        (w.0, omega (arith, w.1))
+
     alone : e ≡ length s → refused_at 10 rule.store e ≡ promised
     unfolding here read_shape
-    alone z = sym (answer_is (here ∷ []) (placed_only s i h (sym q ∙ z)) ∙ ap (named []) w ∙ rw (← u, z, offending_lack (length s) _ _))
+    alone z = sym (answer_is (here ∷ []) (placed_only s i h (sym was.1 ∙ z)) ∙ ap (named []) was.0 ∙ rw (← u, z, offending_lack (length s) _ _))
 
     module _ (z : e ≡ length s → ⊥) where
       -- the fields after the name
@@ -82,20 +99,20 @@ module _ (s : List ℕ) (i : ℕ) where
 
       followed : promised ≡ judged_at place (shaped k (read_shape (rule_of k) (texts after)))
       unfolding here after place
-      followed = answer_is (here ∷ after) (rw q (placed_next s i h (λ d. z (q ∙ d)))) ∙ ap (named after) w
+      followed = answer_is (here ∷ after) (rw was.1 (placed_next s i h (λ d. z (was.1 ∙ d)))) ∙ ap (named after) was.0
 
       shape_is : shape_in rule s (e + 1) ≡ read_at (offending (length s) (forms (rule_of k)) after) (started (start_of (length s) (drop 1 after)) (read_shape (rule_of k) (texts after)))
       unfolding after
       shape_is = rw (u, ← placed_texts (e + 1) (drop (e + 1) s))
 
-      misshapen : {p : ℕ} → wrong p ≡ shape_in rule s (e + 1) → refused_at 10 rule.store p ≡ promised
+      misshapen : {m : Malformed} → Err m ≡ shape_in rule s (e + 1) → refused_at 10 rule.store m.position ≡ promised
       unfolding place
-      misshapen {p} d =
+      misshapen {m} d =
           let o = was_wrong _ (started (start_of (length s) (drop 1 after)) (read_shape (rule_of k) (texts after))) (d ∙ shape_is) in
-          ap (λ (x : Rule). refused_at 10 x.store p) u ∙ ap (λ (x : ℕ). refused_at 10 (rule_of k).store x) o.1 ∙ sym (followed ∙ ap (λ x. judged_at place (shaped k x)) (start_none _ (read_shape (rule_of k) (texts after)) o.0))
+          ap (λ (x : Rule). refused_at 10 x.store m.position) u ∙ ap (λ (x : Malformed). refused_at 10 (rule_of k).store x.position) o.1 ∙ sym (followed ∙ ap (λ x. judged_at place (shaped k x)) (start_none _ (read_shape (rule_of k) (texts after)) o.0))
 
-      module _ {n d : ℕ} {p : Payload} (x : value (n, (p, d)) ≡ shape_in rule s (e + 1)) where
-        was_shaped : (read_shape (rule_of k) (texts after) ≡ some (n, p)) × (d ≡ start_of (length s) (drop 1 after))
+      module _ {n d : ℕ} {p : Payload} (x : Ok (n, (p, d)) ≡ shape_in rule s (e + 1)) where
+        was_shaped : (read_shape (rule_of k) (texts after) ≡ Some (n, p)) × (d ≡ start_of (length s) (drop 1 after))
         was_shaped = start_some _ (read_shape (rule_of k) (texts after)) (was_read _ (started (start_of (length s) (drop 1 after)) (read_shape (rule_of k) (texts after))) (x ∙ shape_is))
 
         -- refused with 11 at the number, and with 12 at the data
@@ -110,7 +127,7 @@ module _ (s : List ℕ) (i : ℕ) where
             ∙ sym (followed ∙ ap (λ r. judged_at place (shaped k r)) o.0)
 
       -- texts are SNA's
-      module _ {n d : ℕ} {t : Step} (x : value (n, (payload.Texts t, d)) ≡ shape_in rule s (e + 1)) where
+      module _ {n d : ℕ} {t : Step} (x : Ok (n, (payload.Texts t, d)) ≡ shape_in rule s (e + 1)) where
         stores_step : (k ≡ Sna) × (is_step t ≡ true)
         stores_step = reads_texts k (texts after) (was_shaped x).0
 
@@ -119,51 +136,29 @@ module _ (s : List ℕ) (i : ℕ) where
             let w = stores_step in
             judged x (λ m. e + 1) refl (λ z. false_true (sym (rw (w.0, w.1) at z))) (rw w.0 y)
 
--- ---- the name as it was read
-
-command : (s : List ℕ) (from : ℕ) {m : Named} {k : Command} → m ≡ command_of (field_at (take (length s - from) (drop from s)) 0) → m ≡ Is k → command_of (field_at s from) ≡ Is k
-command s from r v = sym (rw (rest from s) at r) ∙ v
-
-ends : (s : List ℕ) (from : ℕ) {e : ℕ} → e ≡ end_at (take (length s - from) (drop from s)) 0 → from + e ≡ end_at s from
-ends s from r = omega (arith, rw (rest from s) at r)
-
 pub returns-in_default : goal.returns-in_default
 returns-in_default c =
-    c.refused.ensures c.args.texts.now ∙ unknown c.args.s.now c.args.from (sym (rw (rest c.args.from c.args.s.now) at c.read_name-read.ensures.name_value) ∙ c.in_default.is)
+    unknown c.args.from.text.now c.args.from.index c.in_default.ensures.name_value
 
-pub overflow_add-end : goal.overflow_add-end
-overflow_add-end c =
-    let e = ends c.args.s.now c.args.from (c.read_name-read.ensures.end_value _ c.in-Is.is) in
-    search rules
-
-pub returns-then-end-s : goal.returns-then-end-s
-returns-then-end-s c =
-    let a = c.args in
-    let r = c.read_name-read.ensures in
-    c.refused-then-end-s.ensures c.args.texts.now ∙ alone a.s.now a.from c.requires (command a.s.now a.from r.name_value c.in-Is.is) (ends a.s.now a.from (r.end_value _ c.in-Is.is)) c.rule_of-rule.ensures c.if-end-s.true
+pub returns-then-end-text : goal.returns-then-end-text
+returns-then-end-text c =
+    alone c.args.from.text.now c.args.from.index c.args.from.in_bounds c.in-Some.ensures.name_value c.rule_of-rule.ensures c.if-end-text.true
 
 pub step_or_refusal-requires : goal.step_or_refusal-requires
 step_or_refusal-requires c =
-    let a = c.args in
-    let r = c.read_name-read.ensures in
-    c.rule_of-rule.ensures ∙ ap rule_of (stores_step a.s.now a.from c.requires (command a.s.now a.from r.name_value c.in-Is.is) (ends a.s.now a.from (r.end_value _ c.in-Is.is)) c.rule_of-rule.ensures c.if-end-s.false (rw c.in-Texts.is at c.read_shape-shape.ensures)).0
+    c.rule_of-rule.ensures ∙ ap rule_of (stores_step c.args.from.text.now c.args.from.index c.args.from.in_bounds c.in-Some.ensures.name_value c.rule_of-rule.ensures c.if-end-text.false (rw c.in-Ok-Texts.field-0-is at c.in-Ok-Texts.ensures)).0
 
-pub returns-in-Of : goal.returns-in-Of
-returns-in-Of c =
-    let a = c.args in
-    let r = c.read_name-read.ensures in
-    judged a.s.now a.from c.requires (command a.s.now a.from r.name_value c.in-Is.is) (ends a.s.now a.from (r.end_value _ c.in-Is.is)) c.rule_of-rule.ensures c.if-end-s.false (rw c.in-Of.is at c.read_shape-shape.ensures) _ refl (λ z. refl) (c.request_or_refusal.ensures c.read_shape-shape.new.texts)
+pub returns-in-Ok-Of : goal.returns-in-Ok-Of
+returns-in-Ok-Of c =
+    judged c.args.from.text.now c.args.from.index c.args.from.in_bounds c.in-Some.ensures.name_value c.rule_of-rule.ensures c.if-end-text.false (rw c.in-Ok-Of.field-0-is at c.in-Ok-Of.ensures) _ refl (λ z. refl) (c.request_or_refusal.ensures c.read_shape.new.texts)
 
-pub returns-in-Texts : goal.returns-in-Texts
-returns-in-Texts c =
-    let a = c.args in
-    let r = c.read_name-read.ensures in
-    let x = rw c.in-Texts.is at c.read_shape-shape.ensures in
-    judged_step a.s.now a.from c.requires (command a.s.now a.from r.name_value c.in-Is.is) (ends a.s.now a.from (r.end_value _ c.in-Is.is)) c.rule_of-rule.ensures c.if-end-s.false x
-    (c.step_or_refusal.ensures c.read_shape-shape.new.texts (stores_step a.s.now a.from c.requires (command a.s.now a.from r.name_value c.in-Is.is) (ends a.s.now a.from (r.end_value _ c.in-Is.is)) c.rule_of-rule.ensures c.if-end-s.false x).1)
+pub returns-in-Ok-Texts : goal.returns-in-Ok-Texts
+returns-in-Ok-Texts c =
+    let a = c.args.from in
+    let x = rw c.in-Ok-Texts.field-0-is at c.in-Ok-Texts.ensures in
+    judged_step a.text.now a.index a.in_bounds c.in-Some.ensures.name_value c.rule_of-rule.ensures c.if-end-text.false x
+    (c.step_or_refusal.ensures c.read_shape.new.texts (stores_step a.text.now a.index a.in_bounds c.in-Some.ensures.name_value c.rule_of-rule.ensures c.if-end-text.false x).1)
 
-pub returns-in-Malformed : goal.returns-in-Malformed
-returns-in-Malformed c =
-    let a = c.args in
-    let r = c.read_name-read.ensures in
-    c.refused-in-Malformed.ensures c.read_shape-shape.new.texts ∙ misshapen a.s.now a.from c.requires (command a.s.now a.from r.name_value c.in-Is.is) (ends a.s.now a.from (r.end_value _ c.in-Is.is)) c.rule_of-rule.ensures c.if-end-s.false (rw c.in-Malformed.is at c.read_shape-shape.ensures)
+pub returns-in-Err : goal.returns-in-Err
+returns-in-Err c =
+    misshapen c.args.from.text.now c.args.from.index c.args.from.in_bounds c.in-Some.ensures.name_value c.rule_of-rule.ensures c.if-end-text.false c.in-Err.ensures

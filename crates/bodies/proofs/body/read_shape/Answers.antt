@@ -2,14 +2,16 @@ use Prim.Native.Nat.{ℕ, ◌+◌, ◌≤◌}
 use mathlib.Core.Path.{◌≡◌, sym, ap, ◌∙◌}
 use mathlib.Core.Bool.{true, false, cond}
 use mathlib.Core.List.{List, [], ◌∷◌, map}
-use mathlib.Core.Option.{none, some}
+use borrow.Author.Tests.{not-true, not-false}
+use Rattle.std.specs.Prelude.{None, Some, Ok, Err}
+use Rattle.std.proofs.lemmas.Result.{err_from_is_err_and}
 use lib.ListN.{length, drop}
-use Rattle.text.specs.Scan.{field_at, end_at}
-use Rattle.text.specs.Whole.{read_whole, whole_answer}
-use Rattle.text.specs.declared.whole.Whole.{Whole}
-use Rattle.text.specs.declared.whole.Whole.TheVariants.{Value}
-use Rattle.text.specs.Read.{Read, value, wrong, read_at}
-use Rattle.text.proofs.Read.{was_read, was_wrong}
+use Rattle.text.specs.Scan.{field_at}
+use Rattle.text.specs.Whole.{read_whole}
+use Rattle.text.specs.declared.field.Field.{Field}
+use Rattle.text.specs.declared.field.Malformed.{Malformed}
+use Rattle.text.specs.Read.{Read, malformed, read_at, read_field_at}
+use Rattle.text.proofs.Read.{was_read, was_wrong, field_read, field_wrong}
 use Rattle.frame.specs.Fields.{fields, Placed, placed_more, placed, reads_as, start_of, offending}
 use Rattle.frame.proofs.Laws.{first_is}
 use Rattle.frame.proofs.Placed.{placed_texts, placed_only, placed_next, offending_none, offending_next}
@@ -30,12 +32,12 @@ module _ (etx : ℕ) (rule : Rule) where
   answer fs = read_at (offending etx (forms rule) fs) (started (start_of etx (drop 1 fs)) (read_shape rule (map (λ f. f.text) fs)))
 
   module _ (f : Placed) (fs : List Placed) where
-    unread : read_whole f.text ≡ none → answer (f ∷ fs) ≡ wrong f.position
+    unread : read_whole f.text ≡ None → answer (f ∷ fs) ≡ Err (malformed f.position)
     unfolding answer read_shape
     unread e = rw (offending_next etx (λ s. reads_as (λ n. true) (read_whole s)) (cond rule.store (data_forms rule.form) []) f fs, e)
 
     -- the number is n, and the fields after it decide
-    read : {n : ℕ} → read_whole f.text ≡ some n → answer (f ∷ fs) ≡ read_at (offending etx (cond rule.store (data_forms rule.form) []) fs) (started (start_of etx fs) (numbered (some n) (data_shape rule.store rule.form (map (λ g. g.text) fs))))
+    read : {n : ℕ} → read_whole f.text ≡ Some n → answer (f ∷ fs) ≡ read_at (offending etx (cond rule.store (data_forms rule.form) []) fs) (started (start_of etx fs) (numbered (Some n) (data_shape rule.store rule.form (map (λ g. g.text) fs))))
     unfolding answer read_shape
     read e = rw (offending_next etx (λ s. reads_as (λ n. true) (read_whole s)) (cond rule.store (data_forms rule.form) []) f fs, e)
 
@@ -49,88 +51,78 @@ module _ (rule : Rule) (s : List ℕ) (i : ℕ) where
   unfolding answer
   answer_is fs e = rw (← placed_texts i (drop i s), e)
 
-  unread_at : read_whole (field_at s i) ≡ none → shape_in rule s i ≡ wrong i
+  misread : {m : Malformed} → Err m ≡ read_field_at read_whole s i → Err m ≡ shape_in rule s i
   unfolding placed here
-  unread_at e = answer_is (here ∷ placed_more i (drop i s)) (rw (first_is (drop i s))) ∙ unread (length s) rule here (placed_more i (drop i s)) e
+  misread r =
+      let w = field_wrong read_whole s i r in
+      ap Err w.1 ∙ sym (answer_is (here ∷ placed_more i (drop i s)) (rw (first_is (drop i s))) ∙ unread (length s) rule here (placed_more i (drop i s)) w.0)
 
-  module _ (h : i ≤ length s) {e n : ℕ} (w : read_whole (field_at s i) ≡ some n) (q : e ≡ end_at s i) where
-    alone : e ≡ length s → shape_in rule s i ≡ read_at (offending e (cond rule.store (data_forms rule.form) []) []) (started e (numbered (some n) (data_shape rule.store rule.form [])))
+  -- the number that was read
+  module _ (h : i ≤ length s) {number : Field ℕ} (r : Ok number ≡ read_field_at read_whole s i) where
+    alone : number.end ≡ length s → shape_in rule s i ≡ read_at (offending number.end (cond rule.store (data_forms rule.form) []) []) (started number.end (numbered (Some number.value) (data_shape rule.store rule.form [])))
     unfolding here
-    alone z = answer_is (here ∷ []) (placed_only s i h (sym q ∙ z)) ∙ rw (z) (read (length s) rule here [] w)
+    alone z =
+        let w = field_read read_whole s i r in
+        answer_is (here ∷ []) (placed_only s i h (sym w.1 ∙ z)) ∙ rw (z) (read (length s) rule here [] w.0)
 
-    followed : (e ≡ length s → ⊥) → shape_in rule s i ≡ read_at (offending (length s) (cond rule.store (data_forms rule.form) []) (placed (e + 1) (drop (e + 1) s))) (started (e + 1) (numbered (some n) (data_shape rule.store rule.form (fields (drop (e + 1) s)))))
+    followed : (number.end ≡ length s → ⊥) → shape_in rule s i ≡ read_at (offending (length s) (cond rule.store (data_forms rule.form) []) (placed (number.end + 1) (drop (number.end + 1) s))) (started (number.end + 1) (numbered (Some number.value) (data_shape rule.store rule.form (fields (drop (number.end + 1) s)))))
     unfolding here placed
     followed z =
-        answer_is (here ∷ placed (e + 1) (drop (e + 1) s)) (rw q (placed_next s i h (λ d. z (q ∙ d))))
-        ∙ read (length s) rule here (placed (e + 1) (drop (e + 1) s)) w
-        ∙ rw (placed_texts (e + 1) (drop (e + 1) s))
+        let w = field_read read_whole s i r in
+        answer_is (here ∷ placed (number.end + 1) (drop (number.end + 1) s)) (rw w.1 (placed_next s i h (λ d. z (w.1 ∙ d))))
+        ∙ read (length s) rule here (placed (number.end + 1) (drop (number.end + 1) s)) w.0
+        ∙ rw (placed_texts (number.end + 1) (drop (number.end + 1) s))
 
     -- fields lack, or there is one too many
-    lacks : rule.store ≡ true → e ≡ length s → wrong e ≡ shape_in rule s i
-    lacks t z = let d = no_fields e rule.form in sym (alone z ∙ rw (t, d.0, d.1))
+    lacks : rule.store ≡ true → number.end ≡ length s → Err (malformed number.end) ≡ shape_in rule s i
+    lacks t z = let d = no_fields number.end rule.form in sym (alone z ∙ rw (t, d.0, d.1))
 
-    surplus : rule.store ≡ false → (e ≡ length s → ⊥) → wrong (e + 1) ≡ shape_in rule s i
+    surplus : rule.store ≡ false → (number.end ≡ length s → ⊥) → Err (malformed (number.end + 1)) ≡ shape_in rule s i
     unfolding fields placed
-    surplus t z = sym (followed z ∙ rw (t, offending_none (length s) (placed (e + 1) (drop (e + 1) s))))
+    surplus t z = sym (followed z ∙ rw (t, offending_none (length s) (placed (number.end + 1) (drop (number.end + 1) s))))
 
     -- no data are given, or the data decide
-    bare : (r : Row) → rule.store ≡ false → e ≡ length s → value (n, (given rule.store r, e)) ≡ shape_in rule s i
-    bare r t z = ap (λ x. value (n, (given x r, e))) t ∙ sym (alone z ∙ rw t)
+    bare : (row : Row) → rule.store ≡ false → number.end ≡ length s → Ok (number.value, (given rule.store row, number.end)) ≡ shape_in rule s i
+    bare row t z = ap (λ x. Ok (number.value, (given x row, number.end))) t ∙ sym (alone z ∙ rw t)
 
-    module _ (t : rule.store ≡ true) (z : e ≡ length s → ⊥) where
-      with_data : {p : Payload} → value p ≡ data_in rule.form s (e + 1) → value (n, (p, e + 1)) ≡ shape_in rule s i
-      with_data d = sym (followed z ∙ rw (t, was_read _ (read_data rule.form (fields (drop (e + 1) s))) d))
+    module _ (t : rule.store ≡ true) (z : number.end ≡ length s → ⊥) where
+      with_data : {p : Payload} → Ok p ≡ data_in rule.form s (number.end + 1) → Ok (number.value, (p, number.end + 1)) ≡ shape_in rule s i
+      with_data d = sym (followed z ∙ rw (t, was_read _ (read_data rule.form (fields (drop (number.end + 1) s))) d))
 
-      with_numbers : {r : Row} → value (payload.Numbers r) ≡ data_in rule.form s (e + 1) → value (n, (given rule.store r, e + 1)) ≡ shape_in rule s i
-      with_numbers {r} d = ap (λ x. value (n, (given x r, e + 1))) t ∙ with_data d
+      with_numbers : {row : Row} → Ok (payload.Numbers row) ≡ data_in rule.form s (number.end + 1) → Ok (number.value, (given rule.store row, number.end + 1)) ≡ shape_in rule s i
+      with_numbers {row} d = ap (λ x. Ok (number.value, (given x row, number.end + 1))) t ∙ with_data d
 
-      misshapen : {p : ℕ} → wrong p ≡ data_in rule.form s (e + 1) → wrong p ≡ shape_in rule s i
+      misshapen : {m : Malformed} → Err m ≡ data_in rule.form s (number.end + 1) → Err m ≡ shape_in rule s i
       misshapen d =
-          let w = was_wrong _ (read_data rule.form (fields (drop (e + 1) s))) d in
-          sym (followed z ∙ rw (t, w.0, w.1))
+          let w = was_wrong _ (read_data rule.form (fields (drop (number.end + 1) s))) d in
+          ap Err w.1 ∙ sym (followed z ∙ rw (t, w.0))
 
--- ---- the number as it was read
-
-number : (s : List ℕ) (from : ℕ) {w : Whole} {n : ℕ} → whole_answer w ≡ read_at from (read_whole (field_at s from)) → w ≡ Value n → read_whole (field_at s from) ≡ some n
-number s from r v = was_read _ _ (rw v at r)
+pub returns-in_err-number : goal.returns-in_err-number
+returns-in_err-number c =
+    let p = err_from_is_err_and c.from_residual.result c.from_residual.ensures.1 in
+    rw (p.1, p.2) (misread c.args.rule c.args.from.text.now c.args.from.index c.in_err-number.ensures.value)
 
 pub returns-then-rule : goal.returns-then-rule
 returns-then-rule c =
-    let a = c.args in
-    let r = c.read_whole-read.ensures in
-    lacks a.rule a.s.now a.from c.requires (number a.s.now a.from r.whole_value c.in-Value.is) (r.end_value _ c.in-Value.is) c.if-rule.true c.if-end-s.true
+    lacks c.args.rule c.args.from.text.now c.args.from.index c.args.from.in_bounds c.in_ok-number.ensures.value c.if-rule.true c.if-number-text.true
 
-pub returns-then-end-s : goal.returns-then-end-s
-returns-then-end-s c =
-    let a = c.args in
-    let r = c.read_whole-read.ensures in
-    bare a.rule a.s.now a.from c.requires (number a.s.now a.from r.whole_value c.in-Value.is) (r.end_value _ c.in-Value.is) _ c.if-rule.false c.if-end-s.true
+pub returns-then-number-text : goal.returns-then-number-text
+returns-then-number-text c =
+    bare c.args.rule c.args.from.text.now c.args.from.index c.args.from.in_bounds c.in_ok-number.ensures.value _ c.if-rule.false c.if-number-text.true
+
+pub returns-then-not-rule : goal.returns-then-not-rule
+returns-then-not-rule c =
+    surplus c.args.rule c.args.from.text.now c.args.from.index c.args.from.in_bounds c.in_ok-number.ensures.value (not-true _ c.if-not-rule.true) c.if-number-text.false
+
+pub returns-in_err-row : goal.returns-in_err-row
+returns-in_err-row c =
+    let p = err_from_is_err_and c.from_residual-in_err-row.result c.from_residual-in_err-row.ensures.1 in
+    rw (p.1, p.2) (misshapen c.args.rule c.args.from.text.now c.args.from.index c.args.from.in_bounds c.in_ok-number.ensures.value (not-false _ c.if-not-rule.false) c.if-number-text.false c.in_err-row.ensures)
 
 pub returns-in-Numbers : goal.returns-in-Numbers
 returns-in-Numbers c =
-    let a = c.args in
-    let r = c.read_whole-read.ensures in
-    with_numbers a.rule a.s.now a.from c.requires (number a.s.now a.from r.whole_value c.in-Value.is) (r.end_value _ c.in-Value.is) c.if-rule-2.true c.if-end-s.false (rw c.in-Numbers.is at c.read_data-read.ensures)
+    with_numbers c.args.rule c.args.from.text.now c.args.from.index c.args.from.in_bounds c.in_ok-number.ensures.value (not-false _ c.if-not-rule.false) c.if-number-text.false (rw c.in-Numbers.is at c.in_ok-row.ensures)
 
 pub returns-in-Texts : goal.returns-in-Texts
 returns-in-Texts c =
-    let a = c.args in
-    let r = c.read_whole-read.ensures in
-    with_data a.rule a.s.now a.from c.requires (number a.s.now a.from r.whole_value c.in-Value.is) (r.end_value _ c.in-Value.is) c.if-rule-2.true c.if-end-s.false (rw c.in-Texts.is at c.read_data-read.ensures)
-
-pub returns-in-Malformed-read : goal.returns-in-Malformed-read
-returns-in-Malformed-read c =
-    let a = c.args in
-    let r = c.read_whole-read.ensures in
-    misshapen a.rule a.s.now a.from c.requires (number a.s.now a.from r.whole_value c.in-Value.is) (r.end_value _ c.in-Value.is) c.if-rule-2.true c.if-end-s.false (rw c.in-Malformed-read.is at c.read_data-read.ensures)
-
-pub returns-else-rule-2 : goal.returns-else-rule-2
-returns-else-rule-2 c =
-    let a = c.args in
-    let r = c.read_whole-read.ensures in
-    surplus a.rule a.s.now a.from c.requires (number a.s.now a.from r.whole_value c.in-Value.is) (r.end_value _ c.in-Value.is) c.if-rule-2.false c.if-end-s.false
-
-pub returns-in-Malformed : goal.returns-in-Malformed
-returns-in-Malformed c =
-    let w = was_wrong c.args.from (read_whole (field_at c.args.s.now c.args.from)) (rw c.in-Malformed.is at c.read_whole-read.ensures.whole_value) in
-    ap wrong w.1 ∙ sym (unread_at c.args.rule c.args.s.now c.args.from w.0)
+    with_data c.args.rule c.args.from.text.now c.args.from.index c.args.from.in_bounds c.in_ok-number.ensures.value (not-false _ c.if-not-rule.false) c.if-number-text.false (rw c.in-Texts.is at c.in_ok-row.ensures)
