@@ -1,3 +1,2 @@
-pub mod Refused
 pub mod Replies
 pub mod History

@@ -1,22 +1,20 @@
 -- What the functions below `serve` promise: the slot of a station, a body served on it, and an answer in two parts.
-use Rattle.std.specs.Prelude.{ℕ, ◌≡◌, List}
+use Rattle.std.specs.Prelude.{ℕ, ◌≡◌, List, Option, None, Some}
 use Rattle.frame.specs.Frame.{read_frame}
 use Rattle.harl.specs.declared.message.Sent.{Sent}
 use Rattle.bodies.specs.Body.{read_body}
 use Rattle.harl.specs.Message.{Wrote}
 use Rattle.tables.specs.Tables.{Tables}
-use Rattle.gateway.specs.declared.serve.Found.{Found}
 use Rattle.gateway.specs.declared.serve.Told.{Told}
-use Rattle.gateway.specs.declared.serve.Found.TheVariants as found
 use Rattle.model.specs.Box.{box, Slot, nowhere, at, slot_of, decide_body, perform_tables, respond}
 use Rattle.gateway.specs.Entries.{written}
 
-abbrev pub as_found : Slot → Found
-as_found nowhere = found.Nowhere
-as_found (at k) = found.At k
+abbrev pub as_found : Slot → Option ℕ
+as_found nowhere = None
+as_found (at k) = Some k
 
--- where a station is found
-abbrev pub found_in : List ℕ → ℕ → Found
+-- the slot of a station
+abbrev pub found_in : List ℕ → ℕ → Option ℕ
 found_in st s = as_found (slot_of st s)
 
 -- the body of a slice that is addressed to slot k: the answer and every table

@@ -1,39 +1,36 @@
 // Serving: a slice judged, performed on the arm that it addresses, and answered.
-ghost use Rattle.std.specs.Prelude.{◌≡◌, true, ◌≤◌, ◌<◌, length};
+ghost use Rattle.std.specs.Prelude.{◌≡◌, ◌≤◌, length, option_map};
+ghost use Rattle.refusals.specs.Refusal.{number_of};
 ghost use Rattle.text.specs.Put.{PutAt};
 ghost use Rattle.frame.specs.Frame.{read_frame, frame_of};
 ghost use Rattle.replies.specs.Reply.{performed_text, refusal_text};
 ghost use Rattle.bodies.specs.Position.{request_with};
 ghost use Rattle.harl.specs.Message.{judge_request};
-ghost use Rattle.programs.specs.Memory.{size};
-ghost use Rattle.tables.specs.Tables.{Tables, tables, Performed};
+ghost use Rattle.tables.specs.Tables.{Performed};
+ghost use Rattle.tables.specs.Arms.{tables_of, SameTables};
 ghost use Rattle.model.specs.Box.{box, has_room};
 ghost use Rattle.gateway.specs.Entries.{Served};
 ghost use Rattle.gateway.specs.Serving.{BodyServed, found_in, sent_of};
 
-use bodies::body::{Parsed, Verdict, read_body};
+use bodies::body::{Parsed, read_body};
 use frame::reader::read_frame;
 use frame::writer::{close_frame, open_frame};
-use harl::message::{Sent, refusal};
-use programs::memory::{SIZE, store_step};
+use harl::message::Sent;
+use programs::memory::{Programs, SIZE};
+use programs::slot::Slot;
+use refusals::refusal::{Refusal, Refused};
 use replies::reply::{Outcome, number_in, put_performed, put_refusal};
-use steps::step::step_of;
-use tables::perform::perform;
-
-// Where a station is.
-#[derive(Clone, Copy)]
-pub enum Found {
-    At(usize),
-    Nowhere,
-}
+use steps::step::Step;
+use tables::arms::Arms;
 
 // The first slot that has a station; 0 is none's. The tests go from slot 3 down, so that the first slot is kept,
 // and none of them returns, so that each compiles to a conditional move.
-fn find_slot(stations: &[u8; 4], station: u8) -> Found
-    ensures { result ≡ found_in stations.now station }
+#[tactic(auto, unfolding(model::specs::Box::slot_of, model::specs::Box::scan))]
+fn find_slot(stations: &[u8; 4], station: u8) -> Option<Slot>
+    ensures { option_map (λ s. s.index) result ≡ found_in stations.now station }
 {
     if station == 0 {
-        return Found::Nowhere;
+        return None;
     }
     let mut slot = 4;
     if stations[3] == station {
@@ -49,12 +46,13 @@ fn find_slot(stations: &[u8; 4], station: u8) -> Found
         slot = 0;
     }
     if slot < 4 {
-        return Found::At(slot);
+        return Some(Slot { index: slot });
     }
-    Found::Nowhere
+    None
 }
 
 // Check 1: whether the lent memory has its size, and the reply area room for a reply.
+#[tactic(auto, unfolding(model::specs::Box::has_room))]
 pub fn has_room(programs: &[u8], reply: &[u8]) -> bool
     ensures { result ≡ has_room (length programs.now) (length reply.now) }
 {
@@ -65,6 +63,7 @@ pub fn has_room(programs: &[u8], reply: &[u8]) -> bool
 }
 
 // Writes the reply to a request that was performed.
+#[tactic(auto, using(frame::proofs::Writing::opening_length, text::proofs::Digits::shortest_short, replies::proofs::Texts::performed_length))]
 fn put_reply(reply: &mut [u8], station: u8, outcome: Outcome) -> usize
     requires { 64 ≤ length reply.old }
     ensures { PutAt reply.old 0 (frame_of station (performed_text outcome)) result reply.new }
@@ -75,44 +74,34 @@ fn put_reply(reply: &mut [u8], station: u8, outcome: Outcome) -> usize
 }
 
 // Writes the reply to a refused request.
-fn put_refused(reply: &mut [u8], station: u8, n: u8, store: bool) -> usize
+#[tactic(auto, using(frame::proofs::Writing::opening_length, text::proofs::Digits::shortest_short, replies::proofs::Texts::refusal_length))]
+fn put_refused(reply: &mut [u8], station: u8, refusal: Refusal, store: bool) -> usize
     requires { 64 ≤ length reply.old }
-    ensures { PutAt reply.old 0 (frame_of station (refusal_text n store)) result reply.new }
+    ensures { PutAt reply.old 0 (frame_of station (refusal_text (number_of refusal) store)) result reply.new }
 {
     let at = open_frame(reply, station);
-    let end = put_refusal(reply, at, n, store);
+    let end = put_refusal(reply, at, refusal, store);
     close_frame(reply, end)
 }
 
 // Performs an accepted body on the tables of slot's arm. A step is stored from the array in which its texts were read.
+#[tactic(auto, unfolding(tables::specs::Tables::stored))]
 fn perform_parsed(
-    timers: &mut [[u16; 16]; 4],
-    registers: &mut [[u16; 64]; 4],
-    x: &mut [[i32; 100]; 4],
-    y: &mut [[i32; 100]; 4],
-    z: &mut [[i32; 100]; 4],
-    w: &mut [[i32; 100]; 4],
-    inputs: &mut [[u8; 32]; 4],
-    outputs: &mut [[u8; 32]; 4],
-    memory: &mut [[u8; 16]; 4],
-    on: &mut [u16; 4],
-    programs: &mut [u8],
-    slot: usize,
+    arms: &mut Arms<'_>,
+    programs: &mut Programs<'_>,
+    slot: Slot,
     texts: [u64; 5],
     parsed: Parsed,
 ) -> Outcome
-    ghost t: { Tables }
-    requires programs_value { tables timers.old registers.old x.old y.old z.old w.old inputs.old outputs.old memory.old on.old programs.old ≡ t }
-    requires slot_bound { (slot < 4) × (judge_request (request_with texts parsed) ≡ 0) }
-    requires programs_len { length programs.old ≡ size }
-    ensures { Performed slot (request_with texts parsed) t (tables timers.new registers.new x.new y.new z.new w.new inputs.new outputs.new memory.new on.new programs.new) result }
+    requires { judge_request (request_with texts parsed) ≡ 0 }
+    ensures performed { Performed slot.index (request_with texts parsed) (tables_of arms.old programs.old.bytes.now) (tables_of arms.new programs.new.bytes.now) result }
+    ensures same_tables { SameTables arms.old arms.new }
+    ensures same_memory { programs.new.bytes.ghost_name ≡ programs.old.bytes.ghost_name }
 {
     match parsed {
-        Parsed::Request(request) => perform(
-            timers, registers, x, y, z, w, inputs, outputs, memory, on, programs, slot, request,
-        ),
+        Parsed::Request(request) => arms.perform(programs, slot, request),
         Parsed::Step(n) => {
-            store_step(programs, slot, n, step_of(texts));
+            programs.store(slot, n as u8, Step::from(texts));
             Outcome::Status(0)
         }
     }
@@ -120,39 +109,24 @@ fn perform_parsed(
 
 // Serves the body of a slice that is addressed to slot's arm: checks 9 to 12, then the request.
 fn serve_body(
-    timers: &mut [[u16; 16]; 4],
-    registers: &mut [[u16; 64]; 4],
-    x: &mut [[i32; 100]; 4],
-    y: &mut [[i32; 100]; 4],
-    z: &mut [[i32; 100]; 4],
-    w: &mut [[i32; 100]; 4],
-    inputs: &mut [[u8; 32]; 4],
-    outputs: &mut [[u8; 32]; 4],
-    memory: &mut [[u8; 16]; 4],
-    on: &mut [u16; 4],
-    programs: &mut [u8],
-    slot: usize,
+    arms: &mut Arms<'_>,
+    programs: &mut Programs<'_>,
+    slot: Slot,
     station: u8,
     slice: &[u8],
     body: &[u8],
     reply: &mut [u8],
 ) -> Sent
-    ghost t: { Tables }
-    requires programs_value { tables timers.old registers.old x.old y.old z.old w.old inputs.old outputs.old memory.old on.old programs.old ≡ t }
-    requires slot_bound { (slot < 4) × (64 ≤ length reply.old) }
-    requires programs_len { length programs.old ≡ size }
+    requires room { 64 ≤ length reply.old }
     requires slice_value { ((read_frame slice.now).number ≡ 0) × (body.now ≡ (read_frame slice.now).body) }
-    ensures { BodyServed slot station slice.now t reply.old result (tables timers.new registers.new x.new y.new z.new w.new inputs.new outputs.new memory.new on.new programs.new) reply.new }
+    ensures served { BodyServed slot.index station slice.now (tables_of arms.old programs.old.bytes.now) reply.old result (tables_of arms.new programs.new.bytes.now) reply.new }
+    ensures same_tables { SameTables arms.old arms.new }
+    ensures same_memory { programs.new.bytes.ghost_name ≡ programs.old.bytes.ghost_name }
 {
     let mut texts: [u64; 5] = [0; 5];
-    let read = read_body(slice, body, &mut texts);
-    let verdict = read.verdict;
-    match verdict {
-        Verdict::Accepted(parsed) => {
-            let outcome = perform_parsed(
-                timers, registers, x, y, z, w, inputs, outputs, memory, on, programs, slot, texts,
-                parsed,
-            );
+    match read_body(slice, body, &mut texts) {
+        Ok(parsed) => {
+            let outcome = perform_parsed(arms, programs, slot, texts, parsed);
             let length = put_reply(reply, station, outcome);
             Sent {
                 number: number_in(outcome),
@@ -160,52 +134,47 @@ fn serve_body(
                 position: 0,
             }
         }
-        Verdict::Refused(n, store) => {
-            let length = put_refused(reply, station, n, store);
+        Err(refused) => {
+            let length = put_refused(reply, station, refused.refusal, refused.store);
             Sent {
-                number: n,
+                number: refused.refusal.number(),
                 length,
-                position: read.position,
+                position: refused.position,
             }
         }
     }
 }
 
 // Serves a slice that passed check 1: checks 2 to 12, in their order.
+#[tactic(auto, unfolding(model::specs::Box::decide, model::specs::Box::answer, model::specs::Box::after, model::specs::Box::perform, model::specs::Box::respond, model::specs::Box::has_room))]
 fn serve_slice(
-    timers: &mut [[u16; 16]; 4],
-    registers: &mut [[u16; 64]; 4],
-    x: &mut [[i32; 100]; 4],
-    y: &mut [[i32; 100]; 4],
-    z: &mut [[i32; 100]; 4],
-    w: &mut [[i32; 100]; 4],
-    inputs: &mut [[u8; 32]; 4],
-    outputs: &mut [[u8; 32]; 4],
-    memory: &mut [[u8; 16]; 4],
-    on: &mut [u16; 4],
-    programs: &mut [u8],
+    arms: &mut Arms<'_>,
+    programs: &mut Programs<'_>,
     stations: &[u8; 4],
     slice: &[u8],
     reply: &mut [u8],
 ) -> Sent
-    requires { has_room (length programs.old) (length reply.old) ≡ true }
-    ensures { Served (box stations.now (tables timers.old registers.old x.old y.old z.old w.old inputs.old outputs.old memory.old on.old programs.old)) slice.now reply.old result (tables timers.new registers.new x.new y.new z.new w.new inputs.new outputs.new memory.new on.new programs.new) reply.new }
+    requires { 64 ≤ length reply.old }
+    ensures served { Served (box stations.now (tables_of arms.old programs.old.bytes.now)) slice.now reply.old result (tables_of arms.new programs.new.bytes.now) reply.new }
+    ensures same_tables { SameTables arms.old arms.new }
+    ensures same_memory { programs.new.bytes.ghost_name ≡ programs.old.bytes.ghost_name }
 {
-    let mut number: u8 = 0;
-    let mut station: u8 = 0;
-    let mut position: usize = 0;
-    let body = read_frame(slice, &mut number, &mut station, &mut position);
-    if number != 0 {
-        return refusal(number, position);
-    }
-    let found = find_slot(stations, station);
-    match found {
-        Found::At(slot) => serve_body(
-            timers, registers, x, y, z, w, inputs, outputs, memory, on, programs, slot, station,
-            slice, body, reply,
-        ),
-        Found::Nowhere => refusal(8, 0),
-    }
+    let frame = match read_frame(slice) {
+        Ok(frame) => frame,
+        Err(refused) => return refused.into(),
+    };
+    let Some(slot) = find_slot(stations, frame.station) else {
+        return Refused::at(Refusal::Absent, 0).into();
+    };
+    serve_body(
+        arms,
+        programs,
+        slot,
+        frame.station,
+        slice,
+        frame.body,
+        reply,
+    )
 }
 
 // An answer without its length: the number and the position.
@@ -218,42 +187,20 @@ pub struct Told {
 // The same, for its two callers, here and in the crate hosts. Having two, it is compiled apart from them: so the slice is taken
 // anew, and the length told apart, which keeps both from being copied through memory on the way (docs/SPEED.md).
 pub fn serve_told(
-    timers: &mut [[u16; 16]; 4],
-    registers: &mut [[u16; 64]; 4],
-    x: &mut [[i32; 100]; 4],
-    y: &mut [[i32; 100]; 4],
-    z: &mut [[i32; 100]; 4],
-    w: &mut [[i32; 100]; 4],
-    inputs: &mut [[u8; 32]; 4],
-    outputs: &mut [[u8; 32]; 4],
-    memory: &mut [[u8; 16]; 4],
-    on: &mut [u16; 4],
-    programs: &mut [u8],
+    arms: &mut Arms<'_>,
+    programs: &mut Programs<'_>,
     stations: &[u8; 4],
     slice: &[u8],
     reply: &mut [u8],
     count: &mut usize,
 ) -> Told
-    requires { has_room (length programs.old) (length reply.old) ≡ true }
-    ensures { Served (box stations.now (tables timers.old registers.old x.old y.old z.old w.old inputs.old outputs.old memory.old on.old programs.old)) slice.now reply.old (sent_of result count.new) (tables timers.new registers.new x.new y.new z.new w.new inputs.new outputs.new memory.new on.new programs.new) reply.new }
+    requires { 64 ≤ length reply.old }
+    ensures served { Served (box stations.now (tables_of arms.old programs.old.bytes.now)) slice.now reply.old (sent_of result count.new) (tables_of arms.new programs.new.bytes.now) reply.new }
+    ensures same_tables { SameTables arms.old arms.new }
+    ensures same_memory { programs.new.bytes.ghost_name ≡ programs.old.bytes.ghost_name }
 {
     let n = slice.len();
-    let sent = serve_slice(
-        timers,
-        registers,
-        x,
-        y,
-        z,
-        w,
-        inputs,
-        outputs,
-        memory,
-        on,
-        programs,
-        stations,
-        &slice[..n],
-        reply,
-    );
+    let sent = serve_slice(arms, programs, stations, &slice[..n], reply);
     *count = sent.length;
     Told {
         number: sent.number,
@@ -263,45 +210,23 @@ pub fn serve_told(
 
 // Serves a slice: checks 1 to 12, in their order. With a reply, its bytes stand at the front of the reply
 // area; with none, the length is 0 and the area untouched. A refusal changes no table.
+#[tactic(auto, unfolding(model::specs::Box::decide, model::specs::Box::answer, model::specs::Box::after, model::specs::Box::perform, model::specs::Box::respond, model::specs::Box::has_room))]
 pub fn serve(
-    timers: &mut [[u16; 16]; 4],
-    registers: &mut [[u16; 64]; 4],
-    x: &mut [[i32; 100]; 4],
-    y: &mut [[i32; 100]; 4],
-    z: &mut [[i32; 100]; 4],
-    w: &mut [[i32; 100]; 4],
-    inputs: &mut [[u8; 32]; 4],
-    outputs: &mut [[u8; 32]; 4],
-    memory: &mut [[u8; 16]; 4],
-    on: &mut [u16; 4],
+    arms: &mut Arms<'_>,
     programs: &mut [u8],
     stations: &[u8; 4],
     slice: &[u8],
     reply: &mut [u8],
 ) -> Sent
-    ensures { Served (box stations.now (tables timers.old registers.old x.old y.old z.old w.old inputs.old outputs.old memory.old on.old programs.old)) slice.now reply.old result (tables timers.new registers.new x.new y.new z.new w.new inputs.new outputs.new memory.new on.new programs.new) reply.new }
+    ensures served { Served (box stations.now (tables_of arms.old programs.old)) slice.now reply.old result (tables_of arms.new programs.new) reply.new }
+    ensures same_tables { SameTables arms.old arms.new }
 {
     if !has_room(programs, reply) {
-        return refusal(1, 0);
+        return Refused::at(Refusal::Room, 0).into();
     }
+    let mut lent = Programs { bytes: programs };
     let mut length = 0;
-    let told = serve_told(
-        timers,
-        registers,
-        x,
-        y,
-        z,
-        w,
-        inputs,
-        outputs,
-        memory,
-        on,
-        programs,
-        stations,
-        slice,
-        reply,
-        &mut length,
-    );
+    let told = serve_told(arms, &mut lent, stations, slice, reply, &mut length);
     Sent {
         number: told.number,
         length,

@@ -1,14 +1,18 @@
 // The next slice of two ports, served.
 ghost use Rattle.chooser.specs.Turn.{buffers};
-ghost use Rattle.tables.specs.Tables.{tables};
+ghost use Rattle.tables.specs.Arms.{tables_of, SameTables};
 ghost use Rattle.model.specs.Box.{box};
 ghost use Rattle.hosts.specs.Next.{NextServed};
 
-use chooser::choose::{NONE, choose};
+use chooser::choose::{Buffer, choose};
 use gateway::serve::{has_room, serve_told};
-use harl::message::{Sent, refusal};
+use harl::message::Sent;
+use programs::memory::Programs;
+use refusals::refusal::{Refusal, Refused};
+use tables::arms::Arms;
 
-// What a call returns: the port that was served, 0 for none, 1 for A, 2 for B; and what serving its slice returned.
+// What a call returns: the port that was served, 0 for none, 1 for A, 2 for B; and what serving its slice returned. C is given
+// it as it stands.
 #[repr(C)]
 #[derive(Clone, Copy)]
 pub struct Next {
@@ -16,63 +20,40 @@ pub struct Next {
     pub sent: Sent,
 }
 
-// Picks the port whose turn it is, and serves its waiting slice. Refused, with number 17 and before all other checks, where neither
+// Picks the port whose turn it is, and serves its waiting slice. Refused with 17 IDLE, before all other checks, where neither
 // waits: then nothing changes. A slice that serving refuses has used its turn.
+#[tactic(auto, using(chooser::proofs::Picks::none_idle), unfolding(model::specs::Box::decide, model::specs::Box::answer, model::specs::Box::after, model::specs::Box::perform, model::specs::Box::respond, model::specs::Box::has_room))]
 pub fn serve_next<'a>(
-    timers: &mut [[u16; 16]; 4],
-    registers: &mut [[u16; 64]; 4],
-    x: &mut [[i32; 100]; 4],
-    y: &mut [[i32; 100]; 4],
-    z: &mut [[i32; 100]; 4],
-    w: &mut [[i32; 100]; 4],
-    inputs: &mut [[u8; 32]; 4],
-    outputs: &mut [[u8; 32]; 4],
-    memory: &mut [[u8; 16]; 4],
-    on: &mut [u16; 4],
+    arms: &mut Arms<'_>,
     programs: &mut [u8],
     stations: &[u8; 4],
     turn: &mut u8,
-    a: &'a [u8],
-    waiting_a: usize,
-    b: &'a [u8],
-    waiting_b: usize,
+    a: Buffer<'a>,
+    b: Buffer<'a>,
     reply: &mut [u8],
 ) -> Next
-    ensures { NextServed (box stations.now (tables timers.old registers.old x.old y.old z.old w.old inputs.old outputs.old memory.old on.old programs.old)) turn.old (buffers a.now waiting_a b.now waiting_b) reply.old result turn.new (tables timers.new registers.new x.new y.new z.new w.new inputs.new outputs.new memory.new on.new programs.new) reply.new }
+    ensures served { NextServed (box stations.now (tables_of arms.old programs.old)) turn.old (buffers a.entry.bytes.now a.entry.waiting b.entry.bytes.now b.entry.waiting) reply.old result turn.new (tables_of arms.new programs.new) reply.new }
+    ensures same_tables { SameTables arms.old arms.new }
 {
-    let mut number = 0;
-    let mut port = 0;
-    let slice = choose(turn, a, waiting_a, b, waiting_b, &mut number, &mut port);
-    if port == NONE {
-        return Next {
-            port,
-            sent: refusal(number, 0),
-        };
-    }
+    let choice = match choose(turn, a, b) {
+        Ok(choice) => choice,
+        Err(refusal) => {
+            return Next {
+                port: 0,
+                sent: Refused::at(refusal, 0).into(),
+            };
+        }
+    };
+    let port = choice.port.number();
     if !has_room(programs, reply) {
         return Next {
             port,
-            sent: refusal(1, 0),
+            sent: Refused::at(Refusal::Room, 0).into(),
         };
     }
+    let mut lent = Programs { bytes: programs };
     let mut length = 0;
-    let told = serve_told(
-        timers,
-        registers,
-        x,
-        y,
-        z,
-        w,
-        inputs,
-        outputs,
-        memory,
-        on,
-        programs,
-        stations,
-        slice,
-        reply,
-        &mut length,
-    );
+    let told = serve_told(arms, &mut lent, stations, choice.part, reply, &mut length);
     let sent = Sent {
         number: told.number,
         length,

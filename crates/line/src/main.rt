@@ -9,20 +9,20 @@ ghost use Rattle.std.specs.Prelude.{◌*◌, ◌≤◌, length};
 ghost use Rattle.io.specs.Counts.{IsPrefixLen};
 
 use link::arrived::serve_arrived;
+use receiver::receive::Receiver;
 use slots::setup::setup;
 use std::env::{Env, FillError};
 use std::io::{Error, Read, Write};
-use text::whole::{Whole, read_whole};
+use tables::arms::Arms;
+use text::field::At;
+use text::whole::read_whole;
 
 // The descriptor of standard error.
 const STDERR_FILENO: i32 = 2;
 
-// What an argument is: a number, or any other text.
+// An argument that is no whole number.
 #[derive(Clone, Copy)]
-enum Argument {
-    Number(u16),
-    Other,
-}
+struct NoNumber;
 
 // Writes on standard error what is wrong with the arguments, and what they should be.
 fn complain(what: &[u8]) {
@@ -37,53 +37,48 @@ fn complain(what: &[u8]) {
 }
 
 // The whole number that a text is.
-fn read_number(text: &[u8]) -> Argument {
-    let field = read_whole(text, 0);
-    if field.end < text.len() {
-        return Argument::Other;
-    }
-    let whole = field.whole;
-    match whole {
-        Whole::Value(v) => Argument::Number(v),
-        Whole::Malformed(_) => Argument::Other,
+fn read_number(text: &[u8]) -> Result<u16, NoNumber> {
+    match read_whole(At::front(text)) {
+        Ok(field) if field.end == text.len() => Ok(field.value),
+        _ => Err(NoNumber),
     }
 }
 
-// What argument i is; none where it is missing. One that is longer than any station is no number.
-fn read_argument(rt: &HostRuntime, i: usize) -> Option<Argument> {
+// What argument i is; None where it is missing. One that is longer than any station is no number.
+fn read_argument(rt: &HostRuntime, i: usize) -> Option<Result<u16, NoNumber>> {
     let mut text = [0u8; 8];
     match rt.arg(i, &mut text) {
         Ok(n) => Some(read_number(&text[..n])),
-        Err(FillError::TooLong) => Some(Argument::Other),
+        Err(FillError::TooLong) => Some(Err(NoNumber)),
         Err(FillError::NotPresent) => None,
     }
 }
 
-// Reads the stations from the arguments, and returns whether they are numbers, and not too many.
-fn read_stations(rt: &HostRuntime, want: &mut [u16; 4]) -> bool {
+// Reads the stations from the arguments; None where they are no numbers, or too many, which is then told.
+fn read_stations(rt: &HostRuntime) -> Option<[u16; 4]> {
     if read_argument(rt, 1).is_none() {
-        *want = [1, 2, 3, 4];
-        return true;
+        return Some([1, 2, 3, 4]);
     }
     if read_argument(rt, 5).is_some() {
         complain(b"more than four arguments");
-        return false;
+        return None;
     }
+    let mut want = [0; 4];
     for i in 0..4 {
         match read_argument(rt, i + 1) {
-            Some(Argument::Number(v)) => {
-                want[i] = v;
+            Some(Ok(station)) => {
+                want[i] = station;
             }
-            Some(Argument::Other) => {
+            Some(Err(NoNumber)) => {
                 complain(b"an argument is no number of one to four digits");
-                return false;
+                return None;
             }
             None => {
-                return true;
+                return Some(want);
             }
         }
     }
-    true
+    Some(want)
 }
 
 // Writes on standard error what failed, and why. Where that cannot be written either, nothing is left to tell.
@@ -107,20 +102,10 @@ fn read_block(rt: &HostRuntime, input: &mut [u8]) -> usize
 // Reads once, serves what has arrived, and writes the replies. Returns whether the line goes on.
 fn serve_some(
     rt: &HostRuntime,
-    timers: &mut [[u16; 16]; 4],
-    registers: &mut [[u16; 64]; 4],
-    x: &mut [[i32; 100]; 4],
-    y: &mut [[i32; 100]; 4],
-    z: &mut [[i32; 100]; 4],
-    w: &mut [[i32; 100]; 4],
-    inputs: &mut [[u8; 32]; 4],
-    outputs: &mut [[u8; 32]; 4],
-    memory: &mut [[u8; 16]; 4],
-    on: &mut [u16; 4],
+    arms: &mut Arms<'_>,
     programs: &mut [u8],
     stations: &[u8; 4],
-    held: &mut [u8; 255],
-    count: &mut u8,
+    receiver: &mut Receiver<'_>,
     input: &mut [u8],
     out: &mut [u8],
 ) -> bool
@@ -130,24 +115,7 @@ fn serve_some(
     if n == 0 {
         return false;
     }
-    let length = serve_arrived(
-        timers,
-        registers,
-        x,
-        y,
-        z,
-        w,
-        inputs,
-        outputs,
-        memory,
-        on,
-        programs,
-        stations,
-        held,
-        count,
-        &input[..n],
-        out,
-    );
+    let length = serve_arrived(arms, programs, stations, receiver, &input[..n], out);
     match rt.stdout().write_all(&out[..length]) {
         Ok(()) => true,
         Err(error) => {
@@ -157,20 +125,11 @@ fn serve_some(
     }
 }
 
-// Serves the line to its end. A proved loop has to end, and nothing says that the line does, so the reads are counted down
-// from a number that no run uses up.
+// Serves the line to its end. A proved loop has to end, and nothing says that the line does, so the reads are counted up to a
+// number that no run reaches.
 fn serve_line(
     rt: &HostRuntime,
-    timers: &mut [[u16; 16]; 4],
-    registers: &mut [[u16; 64]; 4],
-    x: &mut [[i32; 100]; 4],
-    y: &mut [[i32; 100]; 4],
-    z: &mut [[i32; 100]; 4],
-    w: &mut [[i32; 100]; 4],
-    inputs: &mut [[u8; 32]; 4],
-    outputs: &mut [[u8; 32]; 4],
-    memory: &mut [[u8; 16]; 4],
-    on: &mut [u16; 4],
+    arms: &mut Arms<'_>,
     programs: &mut [u8],
     stations: &[u8; 4],
     input: &mut [u8],
@@ -180,25 +139,22 @@ fn serve_line(
 {
     let mut held = [0u8; 255];
     let mut count = 0u8;
-    let mut reads = u64::MAX;
-    while 0 < reads {
-        let more = serve_some(
-            rt, timers, registers, x, y, z, w, inputs, outputs, memory, on, programs, stations,
-            &mut held, &mut count, input, out,
-        );
-        if !more {
+    let mut receiver = Receiver {
+        held: &mut held,
+        count: &mut count,
+    };
+    for _ in 0..u64::MAX {
+        if !serve_some(rt, arms, programs, stations, &mut receiver, input, out) {
             return;
         }
-        reads -= 1;
     }
 }
 
 // Sets up the stations of the arguments, and serves the line.
 fn main(rt: HostRuntime) {
-    let mut want = [0u16; 4];
-    if !read_stations(&rt, &mut want) {
+    let Some(want) = read_stations(&rt) else {
         return;
-    }
+    };
     let mut timers = [[0u16; 16]; 4];
     let mut registers = [[0u16; 64]; 4];
     let mut x = [[0i32; 100]; 4];
@@ -212,23 +168,20 @@ fn main(rt: HostRuntime) {
     let mut programs = [0u8; 40960];
     let mut stations = [0u8; 4];
     let mut turn = 0;
-    let refused = setup(
-        &mut timers,
-        &mut registers,
-        &mut x,
-        &mut y,
-        &mut z,
-        &mut w,
-        &mut inputs,
-        &mut outputs,
-        &mut memory,
-        &mut on,
-        &mut programs[..],
-        &mut stations,
-        &mut turn,
-        want,
-    );
-    if refused != 0 {
+    let mut arms = Arms {
+        timers: &mut timers,
+        registers: &mut registers,
+        x: &mut x,
+        y: &mut y,
+        z: &mut z,
+        w: &mut w,
+        inputs: &mut inputs,
+        outputs: &mut outputs,
+        memory: &mut memory,
+        on: &mut on,
+    };
+    let set_up = setup(&mut arms, &mut programs, &mut stations, &mut turn, want);
+    if set_up.is_err() {
         complain(b"a station is above 99, or given twice");
         return;
     }
@@ -236,19 +189,10 @@ fn main(rt: HostRuntime) {
     let mut out = io::large_buffer();
     serve_line(
         &rt,
-        &mut timers,
-        &mut registers,
-        &mut x,
-        &mut y,
-        &mut z,
-        &mut w,
-        &mut inputs,
-        &mut outputs,
-        &mut memory,
-        &mut on,
-        &mut programs[..],
+        &mut arms,
+        &mut programs,
         &stations,
-        &mut input[..],
-        &mut out[..],
+        &mut input,
+        &mut out,
     );
 }

@@ -5,29 +5,24 @@ use mathlib.Core.Path.{◌≡◌, refl}
 use mathlib.Core.Bool.{Bool, true, false, cond, ◌&&◌}
 use mathlib.Core.List.{List, [], ◌∷◌, ◌++◌}
 use native.Mathlib.Omega.{arith}
-use borrow.Author.Tests.{lt-ltb, le-ltb, ltb-true, leb-true, eqb-true}
+use Rattle.std.specs.Prelude.{None, Some}
+use Rattle.std.specs.List.{list_all}
+use borrow.Author.Tests.{ltb-true, leb-true, eqb-true}
 use lib.ListN.{length, get_or, take, drop, length-append}
 use lib.Seq.{sets, sets-eq, length-sets, take_at, length-take-le}
 use lib.Dec.{ltb}
 use Rattle.text.specs.Put.{PutAt}
 use Rattle.text.proofs.Laws.{here, over}
 use Rattle.text.proofs.Digits.{digit_length}
-use Rattle.lines.specs.declared.reader.Line.TheVariants.{Slice, NoCall}
 use Rattle.lines.specs.Lines.{value, all_capitals, is_call, slice_of, line_of, held_after, capital, hex_text, reply_text, answer_line}
 
 -- ---- digits
 
-pub capitals_pass : (s : List ℕ) (i : ℕ) → i < length s → value (get_or s i 0) < 16 → all_capitals (drop i s) ≡ all_capitals (drop (i + 1) s)
+-- each character passes
+pub capitals_all : (s : List ℕ) → list_all (λ b. ltb (value b) 16) s ≡ all_capitals s
 unfolding all_capitals
-capitals_pass s i h v = rw (here s i h, lt-ltb _ _ v)
-
-pub capitals_stop : (s : List ℕ) (i : ℕ) → i < length s → 16 ≤ value (get_or s i 0) → all_capitals (drop i s) ≡ false
-unfolding all_capitals
-capitals_stop s i h v = rw (here s i h, le-ltb _ _ v)
-
-pub capitals_end : (s : List ℕ) (i : ℕ) → length s ≤ i → all_capitals (drop i s) ≡ true
-unfolding all_capitals
-capitals_end s i h = rw (over s i h)
+capitals_all [] = refl
+capitals_all (b ∷ s) = rw (capitals_all s)
 
 -- both tests pass where their conjunction does
 pub both : (a b : Bool) → a && b ≡ true → (a ≡ true) × (b ≡ true)
@@ -57,11 +52,12 @@ call_is s e =
 
 -- ---- a slice from its digits
 
-pub slice_more : (s : List ℕ) (i : ℕ) → i + 1 < length s → slice_of (drop i s) ≡ (value (get_or s i 0) * 16 + value (get_or s (i + 1) 0)) ∷ slice_of (drop (i + 2) s)
+-- byte i is spelled by the digits at 2 * i and behind it
+pub slice_more : (s : List ℕ) (i : ℕ) → 2 * i + 1 < length s → slice_of (drop (2 * i) s) ≡ (value (get_or s (2 * i) 0) * 16 + value (get_or s (2 * i + 1) 0)) ∷ slice_of (drop (2 * (i + 1)) s)
 unfolding slice_of
 slice_more s i h =
-    let e : i + 1 + 1 ≡ i + 2 = omega arith in
-    rw (here s i (omega arith), here s (i + 1) h, e)
+    let e : 2 * i + 1 + 1 ≡ 2 * (i + 1) = omega arith in
+    rw (here s (2 * i) (omega arith), here s (2 * i + 1) h, e)
 
 pub slice_end : (s : List ℕ) (i : ℕ) → length s ≤ i → slice_of (drop i s) ≡ []
 unfolding slice_of
@@ -78,20 +74,20 @@ held_length xs s = go (is_call s)
 
 -- ---- a line read as a slice, and as no call
 
-pub read_slice : (s : List ℕ) (n : ℕ) → line_of s ≡ Slice n → (is_call s ≡ true) × (n ≡ length (slice_of s))
+pub read_slice : (s : List ℕ) (n : ℕ) → line_of s ≡ Some n → (is_call s ≡ true) × (n ≡ length (slice_of s))
 unfolding line_of
 read_slice s n e = go (is_call s) refl e
   where
-    go : (t : Bool) → is_call s ≡ t → cond t (Slice (length (slice_of s))) NoCall ≡ Slice n → (is_call s ≡ true) × (n ≡ length (slice_of s))
+    go : (t : Bool) → is_call s ≡ t → cond t (Some (length (slice_of s))) None ≡ Some n → (is_call s ≡ true) × (n ≡ length (slice_of s))
     go true q e = (q, cc)
-    go false q e = let z : ◌≡◌ {A = ℕ} 0 1 = cc in absurd (omega arith)
+    go false q e = cc
 
-pub read_no_call : (s : List ℕ) → line_of s ≡ NoCall → is_call s ≡ false
+pub read_no_call : (s : List ℕ) → line_of s ≡ None → is_call s ≡ false
 unfolding line_of
 read_no_call s e = go (is_call s) refl e
   where
-    go : (t : Bool) → is_call s ≡ t → cond t (Slice (length (slice_of s))) NoCall ≡ NoCall → is_call s ≡ false
-    go true q e = let z : ◌≡◌ {A = ℕ} 0 1 = cc in absurd (omega arith)
+    go : (t : Bool) → is_call s ≡ t → cond t (Some (length (slice_of s))) None ≡ None → is_call s ≡ false
+    go true q e = cc
     go false q e = q
 
 -- ---- what is written

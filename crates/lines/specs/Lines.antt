@@ -1,9 +1,7 @@
 -- A line of `cell` and the line of its answer (document 01, "Checked examples").
-use Rattle.std.specs.Prelude.{ℕ, ◌+◌, ◌-◌, ◌*◌, ◌/◌, ◌%◌, ◌≤◌, Bool, true, cond, ◌&&◌, List, [], ◌∷◌, ◌++◌, length, ltb, leb, eqb}
+use Rattle.std.specs.Prelude.{ℕ, ◌+◌, ◌-◌, ◌*◌, ◌/◌, ◌%◌, ◌≤◌, Bool, true, cond, ◌&&◌, List, [], ◌∷◌, ◌++◌, length, ltb, leb, eqb, Option, None, Some}
 use Rattle.std.proofs.lemmas.List.Edits.{sets}
 use Rattle.text.specs.Whole.{two_digits}
-use Rattle.lines.specs.declared.reader.Line.{Line}
-use Rattle.lines.specs.declared.reader.Line.TheVariants.{Slice, NoCall}
 
 -- ---- reading
 
@@ -26,18 +24,13 @@ slice_of [] = []
 slice_of (h ∷ []) = []
 slice_of (h ∷ l ∷ s) = (value h * 16 + value l) ∷ slice_of s
 
--- what a line is
-unfoldable pub line_of : List ℕ → Line
-line_of s = cond (is_call s) (Slice (length (slice_of s))) NoCall
+-- how many bytes the slice of a line has; None where the line is no call
+unfoldable pub line_of : List ℕ → Option ℕ
+line_of s = cond (is_call s) (Some (length (slice_of s))) None
 
 -- the lent bytes xs after reading: the slice at their front, or as they were where the line is no call
 unfoldable pub held_after : List ℕ → List ℕ → List ℕ
 held_after xs s = cond (is_call s) (sets xs 0 (slice_of s)) xs
-
--- a slice has at most 256 bytes
-abbrev pub Short : Line → Type 0
-Short (Slice n) = n ≤ 256
-Short NoCall = Unit
 
 -- ---- writing
 

@@ -1,6 +1,6 @@
 // Lines of the program `cell`: a slice as hexadecimal capitals, and the answer to it.
 //
-// The reader takes any bytes and returns an enum: how many bytes the slice has, or that the line is no call.
+// The reader takes any bytes and returns how many bytes the slice has, or None where the line is no call.
 // The writers write into a lent area and return the index after the last byte written. What each does is a
 // definition of specs/; that what is written reads back as itself is proved in proofs/.
 #![tactic(auto)]

@@ -1,52 +1,29 @@
 // A line read as a slice: an even count of hexadecimal capitals, at most 512.
-ghost use Rattle.std.specs.Prelude.{◌≡◌, true, ◌≤◌, length};
+ghost use Rattle.std.specs.Prelude.{◌≡◌, true, ◌≤◌, length, IfSome};
 ghost use Rattle.std.proofs.lemmas.List.Edits.{sets};
-ghost use Rattle.lines.specs.Lines.{value, is_call, slice_of, line_of, held_after, Short};
+ghost use Rattle.lines.specs.Lines.{value, is_call, slice_of, line_of, held_after};
 
-// What a line is: a slice of so many bytes, or no call.
-#[derive(Clone, Copy)]
-pub enum Line {
-    Slice(usize),
-    NoCall,
-}
-
-// The value of a hexadecimal capital; 16 for any other character.
+// The value of a hexadecimal capital; 16 for any other character. An Option is no plainer: `put_slice` would take apart
+// again what `is_call` has tested.
+#[tactic(auto, unfolding(crate::specs::Lines::value))]
 fn value_of(b: u8) -> u8
     ensures { result ≡ value b }
 {
-    if b < b'0' {
-        return 16;
+    match b {
+        b'0'..=b'9' => b - b'0',
+        b'A'..=b'F' => b - b'A' + 10,
+        _ => 16,
     }
-    if b <= b'9' {
-        return b - b'0';
-    }
-    if b < b'A' {
-        return 16;
-    }
-    if b <= b'F' {
-        return b - b'A' + 10;
-    }
-    16
 }
+
+// The most digits that a call has: two for each byte of the longest slice.
+const MOST_DIGITS: usize = 512;
 
 // Whether the line is a call.
 fn is_call(line: &[u8]) -> bool
     ensures { result ≡ is_call line.now }
 {
-    if 512 < line.len() {
-        return false;
-    }
-    if line.len() % 2 != 0 {
-        return false;
-    }
-    let mut i = 0;
-    while i < line.len() {
-        if 16 <= value_of(line[i]) {
-            return false;
-        }
-        i += 1;
-    }
-    true
+    line.len() <= MOST_DIGITS && line.len() % 2 == 0 && line.iter().all(|b| value_of(*b) < 16)
 }
 
 // Writes the bytes that the line spells to the front of `slice`, and returns how many.
@@ -55,25 +32,21 @@ fn put_slice(line: &[u8], slice: &mut [u8; 256]) -> usize
     ensures value { (result ≡ length (slice_of line.now)) × (result ≤ 256) }
     ensures slice_after { slice.new ≡ sets slice.old 0 (slice_of line.now) }
 {
-    let mut n = 0;
-    let mut i = 0;
-    while i < line.len() {
-        let low = i + 1;
-        slice[n] = value_of(line[i]) * 16 + value_of(line[low]);
-        n += 1;
-        i += 2;
+    let n = line.len() / 2;
+    for i in 0..n {
+        slice[i] = value_of(line[2 * i]) * 16 + value_of(line[2 * i + 1]);
     }
     n
 }
 
-// Reads a line; `slice` is untouched where it is no call.
-pub fn read_line(line: &[u8], slice: &mut [u8; 256]) -> Line
-    ensures value { (result ≡ line_of line.now) × Short result }
+// Reads a line: how many bytes the slice has; None where it is no call, and then `slice` is untouched.
+#[tactic(auto, unfolding(crate::specs::Lines::line_of, crate::specs::Lines::held_after))]
+pub fn read_line(line: &[u8], slice: &mut [u8; 256]) -> Option<usize>
+    ensures value { (result ≡ line_of line.now) × IfSome result (λ n. n ≤ 256) }
     ensures slice_after { slice.new ≡ held_after slice.old line.now }
 {
     if is_call(line) {
-        let n = put_slice(line, slice);
-        return Line::Slice(n);
+        return Some(put_slice(line, slice));
     }
-    Line::NoCall
+    None
 }

@@ -22,15 +22,11 @@ fn put_hex(out: &mut [u8], at: usize, s: &[u8]) -> usize
     requires { at + length (hex_text s.now) ≤ length out.old }
     ensures { PutAt out.old at (hex_text s.now) result out.new }
 {
-    let mut i = 0;
     let mut p = at;
-    while i < s.len() {
-        let b = s[i];
-        out[p] = capital_of(b / 16);
-        p += 1;
-        out[p] = capital_of(b % 16);
-        p += 1;
-        i += 1;
+    for b in s {
+        out[p] = capital_of(*b / 16);
+        out[p + 1] = capital_of(*b % 16);
+        p += 2;
     }
     p
 }
@@ -40,7 +36,7 @@ fn put_reply(out: &mut [u8], at: usize, reply: &[u8]) -> usize
     requires { at + length (reply_text reply.now) ≤ length out.old }
     ensures { PutAt out.old at (reply_text reply.now) result out.new }
 {
-    if reply.len() == 0 {
+    if reply.is_empty() {
         return at;
     }
     let first = put_byte(out, Cursor { at, sum: 0 }, b' ');

@@ -3,7 +3,7 @@
 ghost use Rattle.chooser.specs.Turn.{buffers, pick};
 ghost use Rattle.llamput.specs.Choice.{Chosen};
 
-use chooser::choose::choose;
+use chooser::choose::{Buffer, choose};
 
 // What a pick comes to: the refusal number, or 0; the port, 0 for none, 1 for A, 2 for B; and how many bytes from the start of
 // its buffer are the slice, 0 for none.
@@ -25,13 +25,24 @@ pub fn llamput_choose<'a>(
 ) -> Choice
     ensures { Chosen (pick (buffers a.now waiting_a b.now waiting_b) turn.old) result turn.new }
 {
-    let mut number = 0;
-    let mut port = 0;
-    let slice = choose(turn, a, waiting_a, b, waiting_b, &mut number, &mut port);
-    let length = slice.len();
-    Choice {
-        number,
-        port,
-        length,
+    let a = Buffer {
+        bytes: a,
+        waiting: waiting_a,
+    };
+    let b = Buffer {
+        bytes: b,
+        waiting: waiting_b,
+    };
+    match choose(turn, a, b) {
+        Ok(choice) => Choice {
+            number: 0,
+            port: choice.port.number(),
+            length: choice.part.len(),
+        },
+        Err(refusal) => Choice {
+            number: refusal.number(),
+            port: 0,
+            length: 0,
+        },
     }
 }

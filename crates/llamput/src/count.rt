@@ -7,5 +7,5 @@ use slots::count::Count;
 pub fn llamput_outputs_on(on: &[u16; 4], stations: &[u8; 4], slot: usize) -> Count
     ensures { Counted stations.now on.now slot result }
 {
-    slots::count::outputs_on(on, stations, slot)
+    slots::count::outputs_on(on, stations, slot).into()
 }

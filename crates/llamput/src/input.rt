@@ -4,7 +4,9 @@ ghost use Rattle.tables.specs.Tables.{tables};
 ghost use Rattle.model.specs.Box.{box};
 ghost use Rattle.slots.specs.Entries.{InputSet};
 
+use crate::number::number_in;
 use commands::request::Port;
+use tables::arms::Arms;
 
 // Puts a byte into an input port.
 pub fn llamput_input(
@@ -25,7 +27,7 @@ pub fn llamput_input(
 ) -> u8
     ensures { (m : List ℕ) → InputSet (box stations.now (tables timers.old registers.old x.old y.old z.old w.old inputs.old outputs.old memory.old on.old m)) slot port byte result (tables timers.new registers.new x.new y.new z.new w.new inputs.new outputs.new memory.new on.new m) }
 {
-    slots::input::input(
+    let mut arms = Arms {
         timers,
         registers,
         x,
@@ -36,9 +38,6 @@ pub fn llamput_input(
         outputs,
         memory,
         on,
-        stations,
-        slot,
-        Port(port),
-        byte,
-    )
+    };
+    number_in(slots::input::input(&mut arms, stations, slot, Port(port), byte))
 }

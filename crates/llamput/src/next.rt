@@ -4,7 +4,9 @@ ghost use Rattle.tables.specs.Tables.{tables};
 ghost use Rattle.model.specs.Box.{box};
 ghost use Rattle.hosts.specs.Next.{NextServed};
 
+use chooser::choose::Buffer;
 use hosts::next::Next;
+use tables::arms::Arms;
 
 // Picks the port whose turn it is, and serves its waiting slice.
 pub fn llamput_serve_next<'a>(
@@ -29,8 +31,25 @@ pub fn llamput_serve_next<'a>(
 ) -> Next
     ensures { NextServed (box stations.now (tables timers.old registers.old x.old y.old z.old w.old inputs.old outputs.old memory.old on.old programs.old)) turn.old (buffers a.now waiting_a b.now waiting_b) reply.old result turn.new (tables timers.new registers.new x.new y.new z.new w.new inputs.new outputs.new memory.new on.new programs.new) reply.new }
 {
-    hosts::next::serve_next(
-        timers, registers, x, y, z, w, inputs, outputs, memory, on, programs, stations, turn, a,
-        waiting_a, b, waiting_b, reply,
-    )
+    let mut arms = Arms {
+        timers,
+        registers,
+        x,
+        y,
+        z,
+        w,
+        inputs,
+        outputs,
+        memory,
+        on,
+    };
+    let a = Buffer {
+        bytes: a,
+        waiting: waiting_a,
+    };
+    let b = Buffer {
+        bytes: b,
+        waiting: waiting_b,
+    };
+    hosts::next::serve_next(&mut arms, programs, stations, turn, a, b, reply)
 }

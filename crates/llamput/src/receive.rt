@@ -2,7 +2,7 @@
 ghost use Rattle.std.specs.Prelude.{length};
 ghost use Rattle.receiver.specs.Receive.{received, Received};
 
-use receiver::receive::Reception;
+use receiver::receive::{Receiver, Reception};
 
 // Takes bytes of what has arrived until a slice is finished or none is left.
 pub fn llamput_receive(
@@ -13,5 +13,6 @@ pub fn llamput_receive(
 ) -> Reception
     ensures { Received (received held.old count.old arrived.now (length area.old)) area.old result held.new count.new area.new }
 {
-    receiver::receive::receive(held, count, arrived, area)
+    let mut receiver = Receiver { held, count };
+    receiver.receive(arrived, area)
 }

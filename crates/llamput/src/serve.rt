@@ -4,6 +4,7 @@ ghost use Rattle.model.specs.Box.{box};
 ghost use Rattle.gateway.specs.Entries.{Served};
 
 use harl::message::Sent;
+use tables::arms::Arms;
 
 // Serves a slice.
 pub fn llamput_serve(
@@ -24,8 +25,17 @@ pub fn llamput_serve(
 ) -> Sent
     ensures { Served (box stations.now (tables timers.old registers.old x.old y.old z.old w.old inputs.old outputs.old memory.old on.old programs.old)) slice.now reply.old result (tables timers.new registers.new x.new y.new z.new w.new inputs.new outputs.new memory.new on.new programs.new) reply.new }
 {
-    gateway::serve::serve(
-        timers, registers, x, y, z, w, inputs, outputs, memory, on, programs, stations, slice,
-        reply,
-    )
+    let mut arms = Arms {
+        timers,
+        registers,
+        x,
+        y,
+        z,
+        w,
+        inputs,
+        outputs,
+        memory,
+        on,
+    };
+    gateway::serve::serve(&mut arms, programs, stations, slice, reply)
 }

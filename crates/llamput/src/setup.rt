@@ -2,6 +2,9 @@
 ghost use Rattle.tables.specs.Tables.{tables};
 ghost use Rattle.slots.specs.Entries.{SetUp};
 
+use crate::number::number_in;
+use tables::arms::Arms;
+
 // Sets up a new box in lent memory.
 pub fn llamput_setup(
     timers: &mut [[u16; 16]; 4],
@@ -21,7 +24,17 @@ pub fn llamput_setup(
 ) -> u8
     ensures { SetUp want.now programs.old result stations.new turn.new (tables timers.new registers.new x.new y.new z.new w.new inputs.new outputs.new memory.new on.new programs.new) }
 {
-    slots::setup::setup(
-        timers, registers, x, y, z, w, inputs, outputs, memory, on, programs, stations, turn, *want,
-    )
+    let mut arms = Arms {
+        timers,
+        registers,
+        x,
+        y,
+        z,
+        w,
+        inputs,
+        outputs,
+        memory,
+        on,
+    };
+    number_in(slots::setup::setup(&mut arms, programs, stations, turn, *want))
 }

@@ -79,8 +79,8 @@ stored_tally t k (store.Register n v) l e h y = y
 stored_tally t k (store.Row n r) l e h y = y
 stored_tally t k (store.Output g v) l e h y =
     let w = store_within {q = store.Output g v} refl e in
-    output_tally t k ((g.0 - 0) / 8) _ h l (omega (arith, w.0)) (with_bit_byte _ ((g.0 - 0) % 8) (nat_abs v) (y.bytes k ((g.0 - 0) / 8)) (omega arith) w.1.size) y
-stored_tally t k (store.OutputPort p v) l e h y = let w = store_within {q = store.OutputPort p v} refl e in output_tally t k p.0 (nat_abs v) h l w.0 w.1.size y
+    output_tally t k ((g.0 - 0) / 8) _ h l (omega (arith, w.0)) (with_bit_byte _ ((g.0 - 0) % 8) (nat_abs v) (y.bytes k ((g.0 - 0) / 8)) (omega arith) w.1) y
+stored_tally t k (store.OutputPort p v) l e h y = let w = store_within {q = store.OutputPort p v} refl e in output_tally t k p.0 (nat_abs v) h l w.0 w.1 y
 stored_tally t k (store.MemoryBit g v) l e h y = y
 stored_tally t k (store.MemoryPort p v) l e h y = y
 stored_tally t k (store.Step n s) l e h y = y

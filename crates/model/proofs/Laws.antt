@@ -3,7 +3,7 @@ use Prim.Native.Nat.{ℕ, zero, suc, ◌%◌, ◌≤◌, ◌<◌}
 use mathlib.Core.Path.{◌≡◌, refl, ap, ◌∙◌}
 use mathlib.Core.Bool.{Bool, true, false, cond, not, ◌&&◌}
 use mathlib.Core.List.{List, [], ◌∷◌}
-use mathlib.Core.Option.{none, some}
+use Rattle.std.specs.Prelude.{None, Some}
 use native.Mathlib.Omega.{arith}
 use borrow.Author.Tests.{le-ltb, eqb-true, eq-eqb}
 use lib.Dec.{ltb, eqb}
@@ -136,7 +136,7 @@ pub record Framed (o : Reading) (s : ℕ) (r : Request) : Type 0 where
 
 never : {A : Type 0} {n p s : ℕ} {r : Request} → no_request n p ≡ the_request s r → A
 never {A} {n} {p} {s} {r} e =
-    let clash : none ≡ some r = ap (λ o. o.request) e in
+    let clash : None ≡ Some r = ap (λ o. o.request) e in
     let z : ◌≡◌ {A = ℕ} 0 1 = cc in
     absurd (omega arith)
 
@@ -147,7 +147,7 @@ framed slice o s r = go (eqb o.number 0) refl (read_body o.body) refl
     go : (t : Bool) → eqb o.number 0 ≡ t → (j : Judged) → read_body o.body ≡ j
         → cond t (from_station slice o.station j) (no_request o.number (frame_position slice o.number)) ≡ the_request s r → Framed o s r
     go true p (judged.Accepted q) w e =
-        let found : some q ≡ some r = ap (λ x. x.request) e in
+        let found : Some q ≡ Some r = ap (λ x. x.request) e in
         let same : q ≡ r = cc in
         record { number = eqb-true o.number 0 p; station = ap (λ x. x.station) e; body = w ∙ ap judged.Accepted same }
     go true p (judged.Refused n q) w e = never e

@@ -1,8 +1,7 @@
 -- The examples of document 01 that are marked P, and the longest messages: what is asked of the definitions, and what
 -- they must give.
 -- Bytes are written as the document prints them, in hexadecimal.
-use Rattle.std.specs.Prelude.{ℕ, ◌≡◌, true, List, [], ◌∷◌, map, ℤ, pos, neg_ℤ, replicate}
-use Rattle.std.proofs.Math.Option.{Option, none, some}
+use Rattle.std.specs.Prelude.{ℕ, ◌≡◌, true, List, [], ◌∷◌, map, ℤ, pos, neg_ℤ, replicate, Option, None, Some}
 use Rattle.text.specs.Hundredths.{read_hundredths, hundredths_text}
 use Rattle.frame.specs.Checksum.{lrc_of}
 use Rattle.frame.specs.Frame.{frame_of}
@@ -92,15 +91,15 @@ worked =
     -- P2 served
     ∷ (serving (0x02 ∷ 0x32 ∷ 0x20 ∷ 0x53 ∷ 0x4E ∷ 0x44 ∷ 0x20 ∷ 0x36 ∷ 0x33 ∷ 0x20 ∷ 0x30 ∷ 0x30 ∷ 0x34 ∷ 0x32 ∷ 0x03 ∷ 0x4B ∷ []), sent 0 (0x02 ∷ 0x32 ∷ 0x20 ∷ 0x30 ∷ 0x30 ∷ 0x03 ∷ 0x11 ∷ []))
     -- P3: "-0.05"
-    ∷ (reading (0x2D ∷ 0x30 ∷ 0x2E ∷ 0x30 ∷ 0x35 ∷ []), amount (some (neg_ℤ (pos 5))))
+    ∷ (reading (0x2D ∷ 0x30 ∷ 0x2E ∷ 0x30 ∷ 0x35 ∷ []), amount (Some (neg_ℤ (pos 5))))
     -- P4: "-0"
-    ∷ (reading (0x2D ∷ 0x30 ∷ []), amount (some (pos 0)))
+    ∷ (reading (0x2D ∷ 0x30 ∷ []), amount (Some (pos 0)))
     -- P5: "12.5"
-    ∷ (reading (0x31 ∷ 0x32 ∷ 0x2E ∷ 0x35 ∷ []), amount (some (pos 1250)))
+    ∷ (reading (0x31 ∷ 0x32 ∷ 0x2E ∷ 0x35 ∷ []), amount (Some (pos 1250)))
     -- P6: "-9999.99"
-    ∷ (reading (0x2D ∷ 0x39 ∷ 0x39 ∷ 0x39 ∷ 0x39 ∷ 0x2E ∷ 0x39 ∷ 0x39 ∷ []), amount (some (neg_ℤ (pos 999999))))
+    ∷ (reading (0x2D ∷ 0x39 ∷ 0x39 ∷ 0x39 ∷ 0x39 ∷ 0x2E ∷ 0x39 ∷ 0x39 ∷ []), amount (Some (neg_ℤ (pos 999999))))
     -- P7: "10000"
-    ∷ (reading (0x31 ∷ 0x30 ∷ 0x30 ∷ 0x30 ∷ 0x30 ∷ []), amount none)
+    ∷ (reading (0x31 ∷ 0x30 ∷ 0x30 ∷ 0x30 ∷ 0x30 ∷ []), amount None)
     -- P7 as an offset, "SNL 0 10000 0 0 0": SHAPE of an SN
     ∷ (judging (0x53 ∷ 0x4E ∷ 0x4C ∷ 0x20 ∷ 0x30 ∷ 0x20 ∷ 0x31 ∷ 0x30 ∷ 0x30 ∷ 0x30 ∷ 0x30 ∷ 0x20 ∷ 0x30 ∷ 0x20 ∷ 0x30 ∷ 0x20 ∷ 0x30 ∷ []), verdict (Refused 10 true))
     -- P8: "SNT 0 10.00": VALUE of an SN

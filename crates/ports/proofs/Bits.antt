@@ -1,5 +1,5 @@
 -- A byte and its bits.
-use Prim.Native.Nat.{ℕ, zero, suc, ◌+◌, ◌-◌, ◌*◌, ◌/◌, ◌%◌, ◌^◌, ◌≤◌, ◌<◌}
+use Prim.Native.Nat.{ℕ, zero, suc, ◌+◌, ◌-◌, ◌*◌, ◌/◌, ◌%◌, ◌^◌, ◌<◌}
 use mathlib.Core.Path.{◌≡◌, refl}
 use mathlib.Core.Bool.{Bool, ◌||◌}
 use native.Mathlib.Omega.{arith}
@@ -8,11 +8,8 @@ use lib.Dec.{eqb}
 use Rattle.ports.specs.Bits.{bit, with_bit, BitStored, OtherBitsKept, sum, PortIsSum}
 use Rattle.ports.proofs.Laws.{all, all_at}
 
--- what the steps of `with_bit` ask at bit k of the byte b and the new bit v, and what they leave there
+-- what the last step of `with_bit` asks at bit k of the byte b and the new bit v, and what it leaves there
 pub record Steps (b k v : ℕ) : Type 0 where
-  pub power : 1 * 2 ^ k % 256 ≡ 2 ^ k
-  pub old : b / 2 ^ k % 2 * (1 * 2 ^ k % 256) ≤ b
-  pub new : v * (1 * 2 ^ k % 256) < 256
   pub sum : b - b / 2 ^ k % 2 * (1 * 2 ^ k % 256) + v * (1 * 2 ^ k % 256) < 256
   pub byte : with_bit b k v < 256
   pub same : bit (with_bit b k v) k ≡ v

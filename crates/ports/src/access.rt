@@ -4,12 +4,11 @@ ghost use Rattle.std.specs.Prelude.{◌≡◌, ◌<◌, length, get_or, set, nat
 ghost use Rattle.replies.specs.declared.reply.Data.TheVariants as held;
 ghost use Rattle.ports.specs.Bits.{bit, with_bit};
 ghost use Rattle.ports.specs.On.{moved};
-ghost use Rattle.ports.specs.Place.{byte_with};
+ghost use Rattle.ports.specs.Place.{byte_with, spot};
 
 use crate::place::Place;
 use commands::request::Port;
 use replies::reply::Data;
-use text::hundredths::unsigned_abs;
 
 // Bit k of a byte.
 fn bit_of(b: u8, k: u8) -> u8
@@ -28,28 +27,12 @@ fn with_bit(b: u8, k: u8, v: u8) -> u8
     b - (b >> k) % 2 * w + v * w
 }
 
-// The value of a byte.
-fn from_byte(v: u8) -> i32
-    ensures { result ≡ pos v }
-{
-    v as i32
-}
-
-// The size of a value that a byte holds: the sign is left off.
-fn as_byte(v: i32) -> u8
-    requires { nat_abs v < 256 }
-    ensures { result ≡ nat_abs v }
-{
-    unsigned_abs(v) as u8
-}
-
 // The signal at a place.
 pub fn load_signal(ports: &[u8], place: Place) -> Data
-    requires { (place.port < length ports.now) × (place.bit < 8) }
+    requires { place.port < length ports.now }
     ensures { result ≡ held.Signal (pos (bit (get_or ports.now place.port 0) place.bit)) }
 {
-    let port = place.port;
-    Data::Signal(from_byte(bit_of(ports[port], place.bit)))
+    Data::Signal(bit_of(ports[place.port], place.bit) as i32)
 }
 
 // A whole port.
@@ -57,17 +40,15 @@ pub fn load_port(ports: &[u8], port: Port) -> Data
     requires { port.0 < length ports.now }
     ensures { result ≡ held.Port (pos (get_or ports.now port.0 0)) }
 {
-    let p = port.0 as usize;
-    Data::Port(from_byte(ports[p]))
+    Data::Port(ports[port.0 as usize] as i32)
 }
 
 // The byte of a place's port, with v for the bit there.
 fn byte_with(ports: &[u8], place: Place, v: i32) -> u8
-    requires { (place.port < length ports.now) × ((place.bit < 8) × (nat_abs v < 2)) }
-    ensures { result ≡ byte_with ports.now place (nat_abs v) }
+    requires { (place.port < length ports.now) × (nat_abs v < 2) }
+    ensures { result ≡ byte_with ports.now (spot place) (nat_abs v) }
 {
-    let port = place.port;
-    with_bit(ports[port], place.bit, as_byte(v))
+    with_bit(ports[place.port], place.bit, v.unsigned_abs() as u8)
 }
 
 // Puts a byte into a port. Every SN that changes a port goes through here.
@@ -82,7 +63,7 @@ fn set_port(ports: &mut [u8], port: usize, v: u8)
 fn moved_by(total: u16, before: u8, after: u8) -> u16
     ensures { result ≡ moved total before after }
 {
-    ((total as u32 + u8::count_ones(after) + 65536 - u8::count_ones(before)) % 65536) as u16
+    ((total as u32 + after.count_ones() + 65536 - before.count_ones()) % 65536) as u16
 }
 
 // Puts a byte into an output port, and returns the number kept then. Every write of an output port goes through here.
@@ -98,12 +79,11 @@ fn set_output(ports: &mut [u8], on: u16, port: usize, v: u8) -> u16
 
 // Replaces the memory bit at a place.
 pub fn store_bit(ports: &mut [u8], place: Place, v: i32)
-    requires { (place.port < length ports.old) × ((place.bit < 8) × (nat_abs v < 2)) }
-    ensures { ports.new ≡ set ports.old place.port (byte_with ports.old place (nat_abs v)) }
+    requires { (place.port < length ports.old) × (nat_abs v < 2) }
+    ensures { ports.new ≡ set ports.old place.port (byte_with ports.old (spot place) (nat_abs v)) }
 {
-    let port = place.port;
     let b = byte_with(ports, place, v);
-    set_port(ports, port, b);
+    set_port(ports, place.port, b);
 }
 
 // Replaces a whole memory port.
@@ -111,19 +91,17 @@ pub fn store_port(ports: &mut [u8], port: Port, v: i32)
     requires { (port.0 < length ports.old) × (nat_abs v < 256) }
     ensures { ports.new ≡ set ports.old port.0 (nat_abs v) }
 {
-    let p = port.0 as usize;
-    set_port(ports, p, as_byte(v));
+    set_port(ports, port.0 as usize, v.unsigned_abs() as u8);
 }
 
 // Replaces the output at a place.
 pub fn store_output(ports: &mut [u8], on: u16, place: Place, v: i32) -> u16
-    requires { (place.port < length ports.old) × ((place.bit < 8) × (nat_abs v < 2)) }
-    ensures ports_after { ports.new ≡ set ports.old place.port (byte_with ports.old place (nat_abs v)) }
-    ensures value { result ≡ moved on (get_or ports.old place.port 0) (byte_with ports.old place (nat_abs v)) }
+    requires { (place.port < length ports.old) × (nat_abs v < 2) }
+    ensures ports_after { ports.new ≡ set ports.old place.port (byte_with ports.old (spot place) (nat_abs v)) }
+    ensures value { result ≡ moved on (get_or ports.old place.port 0) (byte_with ports.old (spot place) (nat_abs v)) }
 {
-    let port = place.port;
     let b = byte_with(ports, place, v);
-    set_output(ports, on, port, b)
+    set_output(ports, on, place.port, b)
 }
 
 // Replaces a whole output port.
@@ -132,6 +110,5 @@ pub fn store_output_port(ports: &mut [u8], on: u16, port: Port, v: i32) -> u16
     ensures ports_after { ports.new ≡ set ports.old port.0 (nat_abs v) }
     ensures value { result ≡ moved on (get_or ports.old port.0 0) (nat_abs v) }
 {
-    let p = port.0 as usize;
-    set_output(ports, on, p, as_byte(v))
+    set_output(ports, on, port.0 as usize, v.unsigned_abs() as u8)
 }

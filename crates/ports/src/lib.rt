@@ -5,5 +5,6 @@
 // the result, and every byte of the ports at exit, with definitions of specs/.
 #![tactic(auto)]
 
-pub mod place; // place.rt: where a signal stands among the ports
+pub mod place; // place.rt: a bit of a port
+pub mod signal; // signal.rt: where a signal stands among the ports
 pub mod access; // access.rt: ports read and replaced

@@ -1,5 +1,7 @@
 -- What the entries promise: every answer is the model's.
-use Rattle.std.specs.Prelude.{ℕ, ◌≡◌, List, get_or}
+use Rattle.std.specs.Prelude.{ℕ, ◌≡◌, List, get_or, Result, Ok, Err}
+use Rattle.refusals.specs.declared.refusal.Refusal.{Refusal}
+use Rattle.refusals.specs.Refusal.{number_of}
 use Rattle.chooser.specs.Turn.{fresh}
 use Rattle.tables.specs.Tables.{Tables, with_on}
 use Rattle.slots.specs.declared.count.Count.{Count}
@@ -22,6 +24,11 @@ pub record InputSet (b : Box) (slot port byte : ℕ) (number : ℕ) (t : Tables)
 -- an answer as the number of outputs that are on; 0 where there is no reply
 abbrev pub as_count : Answer → Count
 as_count a = record { number = a.number; count = get_or a.reply 0 0 }
+
+-- the answer to a question, by numbers
+abbrev pub counted : Result ℕ Refusal → Count
+counted (Ok n) = record { number = 0; count = n }
+counted (Err r) = record { number = number_of r; count = 0 }
 
 -- a call that asks for that number: it is given the stations and the numbers kept, and its answer is the same whatever the other
 -- tables hold

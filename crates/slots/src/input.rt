@@ -1,39 +1,32 @@
 // Input calls: a byte put into an input port, as the arm's wiring does.
 ghost use Rattle.std.specs.Prelude.{ℕ, List};
-ghost use Rattle.tables.specs.Tables.{tables};
+ghost use Rattle.refusals.specs.Refusal.{refusal_number};
+ghost use Rattle.tables.specs.Arms.{tables_of, SameTables};
 ghost use Rattle.model.specs.Box.{box};
 ghost use Rattle.slots.specs.Entries.{InputSet};
 
-use crate::slot::is_fitted;
+use crate::slot::fitted_slot;
 use commands::request::Port;
+use refusals::refusal::Refusal;
+use tables::arms::Arms;
 
-// Puts a byte into an input port of slot's arm. Refused, with number 14: a slot above 3 or unfitted, or a
-// port above 31. The memory of the START programs is not lent: whatever it holds, it stays.
+// Puts a byte into an input port of slot's arm. Refused with 14 INPUT: a slot above 3 or unfitted, or a port above 31. The
+// memory of the START programs is not lent: whatever it holds, it stays.
+#[tactic(auto, unfolding(model::specs::Box::decide, model::specs::Box::perform, model::specs::Box::respond, model::specs::Box::after, model::specs::Box::answer))]
 pub fn input(
-    timers: &mut [[u16; 16]; 4],
-    registers: &mut [[u16; 64]; 4],
-    x: &mut [[i32; 100]; 4],
-    y: &mut [[i32; 100]; 4],
-    z: &mut [[i32; 100]; 4],
-    w: &mut [[i32; 100]; 4],
-    inputs: &mut [[u8; 32]; 4],
-    outputs: &mut [[u8; 32]; 4],
-    memory: &mut [[u8; 16]; 4],
-    on: &mut [u16; 4],
+    arms: &mut Arms<'_>,
     stations: &[u8; 4],
     slot: usize,
     port: Port,
     byte: u8,
-) -> u8
-    ensures { (m : List ℕ) → InputSet (box stations.now (tables timers.old registers.old x.old y.old z.old w.old inputs.old outputs.old memory.old on.old m)) slot port.0 byte result (tables timers.new registers.new x.new y.new z.new w.new inputs.new outputs.new memory.new on.new m) }
+) -> Result<(), Refusal>
+    ensures set { (m : List ℕ) → InputSet (box stations.now (tables_of arms.old m)) slot port.0 byte (refusal_number result) (tables_of arms.new m) }
+    ensures same_tables { SameTables arms.old arms.new }
 {
-    if !is_fitted(stations, slot) {
-        return 14;
+    let slot = fitted_slot(stations, slot).ok_or(Refusal::Input)?;
+    if 31 < port.0 {
+        return Err(Refusal::Input);
     }
-    let p = port.0 as usize;
-    if 31 < p {
-        return 14;
-    }
-    inputs[slot][p] = byte;
-    0
+    arms.inputs[slot.index][port.0 as usize] = byte;
+    Ok(())
 }

@@ -1,129 +1,89 @@
 // Setup: a new box in memory that the caller lends.
-ghost use Rattle.std.specs.Prelude.{ℕ, ◌≡◌, List, drop};
-ghost use Rattle.tables.specs.Tables.{tables, zeros};
-ghost use Rattle.model.specs.Setup.{too_high, contains, repeats, setup_refusal};
+ghost use Rattle.std.specs.Prelude.{ℕ, ◌≡◌, List, length};
+ghost use Rattle.refusals.specs.Refusal.{refusal_number};
+ghost use Rattle.tables.specs.Tables.{zeros};
+ghost use Rattle.tables.specs.Arms.{tables_of, SameTables};
+ghost use Rattle.model.specs.Setup.{too_high, repeats, setup_refusal};
 ghost use Rattle.slots.specs.Entries.{SetUp};
 
-use chooser::choose::NONE;
+use chooser::choose::FRESH;
 use programs::memory::SIZE;
-
-// Whether one of the slots from `from` on is given the station s.
-fn is_contained(want: [u16; 4], s: u16, from: usize) -> bool
-    ensures { result ≡ contains s (drop from want) }
-{
-    let mut i = from;
-    while i < 4 {
-        if want[i] == s {
-            return true;
-        }
-        i += 1;
-    }
-    false
-}
+use refusals::refusal::Refusal;
+use tables::arms::Arms;
 
 // Whether some nonzero station is given twice.
+#[tactic(auto, unfolding(model::specs::Setup::repeats, model::specs::Setup::contains))]
 fn is_repeating(want: [u16; 4]) -> bool
     ensures { result ≡ repeats want }
 {
-    let mut i = 0;
-    while i < 4 {
+    for i in 0..4 {
         let s = want[i];
-        if s != 0 {
-            if is_contained(want, s, i + 1) {
-                return true;
-            }
+        if s != 0 && want[i + 1..].contains(&s) {
+            return true;
         }
-        i += 1;
     }
     false
 }
 
 // Whether some station is above 99.
+#[tactic(auto, unfolding(model::specs::Setup::too_high))]
 fn is_too_high(want: [u16; 4]) -> bool
     ensures { result ≡ too_high want }
 {
-    let mut i = 0;
-    while i < 4 {
-        if 99 < want[i] {
-            return true;
-        }
-        i += 1;
-    }
-    false
+    want.iter().any(|s| 99 < *s)
 }
 
-// Check 1 of the lent memory and check 13 of four station numbers; 0 where both pass.
-fn judge_setup(programs: &[u8], want: [u16; 4]) -> u8
-    ensures { result ≡ setup_refusal want programs.now }
+// Check 1 of the lent memory and check 13 of four station numbers.
+#[tactic(auto, unfolding(model::specs::Setup::setup_refusal, model::specs::Setup::setup_number))]
+fn judge_setup(programs: &[u8], want: [u16; 4]) -> Result<(), Refusal>
+    ensures { refusal_number result ≡ setup_refusal want programs.now }
 {
     if programs.len() != SIZE {
-        return 1;
+        return Err(Refusal::Room);
     }
-    if is_too_high(want) {
-        return 13;
+    if is_too_high(want) || is_repeating(want) {
+        return Err(Refusal::Setup);
     }
-    if is_repeating(want) {
-        return 13;
-    }
-    0
+    Ok(())
 }
 
 // Sets every row, register, timer and port to zero, and the number of outputs that are on.
-fn clear(
-    timers: &mut [[u16; 16]; 4],
-    registers: &mut [[u16; 64]; 4],
-    x: &mut [[i32; 100]; 4],
-    y: &mut [[i32; 100]; 4],
-    z: &mut [[i32; 100]; 4],
-    w: &mut [[i32; 100]; 4],
-    inputs: &mut [[u8; 32]; 4],
-    outputs: &mut [[u8; 32]; 4],
-    memory: &mut [[u8; 16]; 4],
-    on: &mut [u16; 4],
-)
-    ensures { (m : List ℕ) → tables timers.new registers.new x.new y.new z.new w.new inputs.new outputs.new memory.new on.new m ≡ zeros m }
+#[tactic(auto, unfolding(tables::specs::Tables::zeros))]
+fn clear(arms: &mut Arms<'_>)
+    ensures zeros { (m : List ℕ) → tables_of arms.new m ≡ zeros m }
+    ensures same_tables { SameTables arms.old arms.new }
 {
-    *timers = [[0; 16]; 4];
-    *registers = [[0; 64]; 4];
-    *x = [[0; 100]; 4];
-    *y = [[0; 100]; 4];
-    *z = [[0; 100]; 4];
-    *w = [[0; 100]; 4];
-    *inputs = [[0; 32]; 4];
-    *outputs = [[0; 32]; 4];
-    *memory = [[0; 16]; 4];
-    *on = [0; 4];
+    *arms.timers = [[0; 16]; 4];
+    *arms.registers = [[0; 64]; 4];
+    *arms.x = [[0; 100]; 4];
+    *arms.y = [[0; 100]; 4];
+    *arms.z = [[0; 100]; 4];
+    *arms.w = [[0; 100]; 4];
+    *arms.inputs = [[0; 32]; 4];
+    *arms.outputs = [[0; 32]; 4];
+    *arms.memory = [[0; 16]; 4];
+    *arms.on = [0; 4];
 }
 
 // Sets up a new box, whatever the memory held: every table zero, the START programs cleared, each slot with its station, or
-// unfitted where it is 0, and no port served last. Refused: number 1 or 13, no slot is fitted, and the START programs are
-// untouched.
+// unfitted where it is 0, and no port served last. Refused with 1 ROOM or 13 SETUP: no slot is fitted, and the START programs
+// are untouched.
+#[tactic(auto, using(model::proofs::Setups::accepted_small, model::proofs::Setups::refused_stations, model::proofs::Setups::refused_tables))]
 pub fn setup(
-    timers: &mut [[u16; 16]; 4],
-    registers: &mut [[u16; 64]; 4],
-    x: &mut [[i32; 100]; 4],
-    y: &mut [[i32; 100]; 4],
-    z: &mut [[i32; 100]; 4],
-    w: &mut [[i32; 100]; 4],
-    inputs: &mut [[u8; 32]; 4],
-    outputs: &mut [[u8; 32]; 4],
-    memory: &mut [[u8; 16]; 4],
-    on: &mut [u16; 4],
+    arms: &mut Arms<'_>,
     programs: &mut [u8],
     stations: &mut [u8; 4],
     turn: &mut u8,
     want: [u16; 4],
-) -> u8
-    ensures { SetUp want programs.old result stations.new turn.new (tables timers.new registers.new x.new y.new z.new w.new inputs.new outputs.new memory.new on.new programs.new) }
+) -> Result<(), Refusal>
+    ensures set_up { SetUp want programs.old (refusal_number result) stations.new turn.new (tables_of arms.new programs.new) }
+    ensures same_tables { SameTables arms.old arms.new }
 {
-    clear(timers, registers, x, y, z, w, inputs, outputs, memory, on);
-    *turn = NONE;
-    let number = judge_setup(programs, want);
-    if number != 0 {
-        *stations = [0; 4];
-        return number;
-    }
+    clear(arms);
+    *turn = FRESH;
+    *stations = [0; 4];
+    judge_setup(programs, want)?;
     programs::memory::clear(programs);
     *stations = [want[0] as u8, want[1] as u8, want[2] as u8, want[3] as u8];
-    0
+    Ok(())
 }

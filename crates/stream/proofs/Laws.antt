@@ -1,5 +1,5 @@
--- Laws of the state: what a line leaves, a line that has ended, bytes of input one after the other and in parts,
--- bytes without LF, and the input's end.
+-- Laws of the state: what a line leaves, a line that has ended, the lent tables, bytes of input one after the other and in
+-- parts, bytes without LF, and the input's end.
 use Prim.Native.Nat.{ℕ, zero, suc, ◌+◌, ◌-◌, ◌≤◌, ◌<◌}
 use mathlib.Core.Path.{◌≡◌, refl, sym, ap, ◌∙◌}
 use mathlib.Core.Bool.{Bool, true, false, cond}
@@ -9,17 +9,19 @@ use native.Mathlib.Numerals.{add-one}
 use native.Mathlib.Omega.{arith}
 use borrow.Author.Tests.{eq-eqb, ne_eqb, eqb-true}
 use lib.ListN.{length, get_or, take, drop, length-drop}
-use lib.Seq.{length-sets, take_all, take-add, take-suc, length-take-le}
+use lib.Seq.{take_all, take-add, take-suc, length-take-le}
 use lib.Dec.{eqb}
 use Rattle.text.specs.Scan.{until, before}
 use Rattle.text.proofs.Laws.{rest}
+use Rattle.tables.specs.declared.arms.Arms.{Arms}
+use Rattle.tables.specs.Arms.{SameTables}
 use Rattle.tables.specs.Tables.{Tables}
 use Rattle.model.specs.Box.{Box, box, after, perform}
 use Rattle.lines.specs.Lines.{is_call, slice_of}
 use Rattle.lines.proofs.Laws.{put_behind}
 use Rattle.answers.specs.Answers.{line_call, box_after, LineAnswered}
-use Rattle.stream.specs.declared.input.Progress.{Progress}
-use Rattle.stream.specs.Cell.{Cell, ended, extended, taken, taken_all, finished, cell_of, Within, Took}
+use Rattle.stream.specs.declared.progress.Progress.{Progress}
+use Rattle.stream.specs.Cell.{Cell, ended, extended, taken, taken_all, finished, cell_of, Took}
 
 -- ---- a line that has ended
 
@@ -33,20 +35,32 @@ pub box_is : (b : Box) (line : List ℕ) {t : Tables} → t ≡ (box_after b lin
 unfolding box_after
 box_is b line e = rw e (left b (slice_of line) (is_call line))
 
-module _ {held out : List ℕ} {p : Progress} (w : Within held out p) where
-  pub line_ended : {st line out' : List ℕ} {t t' : Tables} {r : ℕ} → p.waiting + 132 ≤ 65536 → line ≡ take p.held held → LineAnswered (box st t) line out p.waiting r out' t' → cell_of st t' held out' (record { held = 0; waiting = r }) ≡ ended (cell_of st t held out p)
-  unfolding ended
-  line_ended {st} {line} {t = t} h e a =
-      rw (← e, box_is (box st t) line a.tables_are, put_behind a.answer_is (omega (arith, a.short, w.out_size)))
+-- r bytes of output wait
+pub line_ended : {st line out' : List ℕ} {t t' : Tables} {r : ℕ} (held out : List ℕ) (p : Progress) → length out ≡ 65536 → p.waiting + 132 ≤ 65536 → line ≡ take p.held held → LineAnswered (box st t) line out p.waiting r out' t' → record { box = box st t'; line = []; output = take r out' } ≡ ended (cell_of st t held out p)
+unfolding ended
+line_ended {st} {line} {t = t} held out p l h e a =
+    rw (← e, box_is (box st t) line a.tables_are, put_behind a.answer_is (omega (arith, a.short, l)))
 
-  pub ended_within : {b : Box} {line out' : List ℕ} {t' : Tables} {r : ℕ} → p.waiting + 132 ≤ 65536 → LineAnswered b line out p.waiting r out' t' → Within held out' (record { held = 0; waiting = r })
-  ended_within h a =
-      record {
-        held_size = w.held_size;
-        out_size = rw (a.answer_is.area, length-sets) w.out_size;
-        held_fits = omega arith;
-        waiting_fits = omega (arith, a.short);
-      }
+-- ---- the lent tables: the same ones
+
+pub same_tables : (a : Arms) → SameTables a a
+same_tables a =
+    record { timers = refl; registers = refl; x = refl; y = refl; z = refl; w = refl; inputs = refl; outputs = refl; memory = refl; on = refl }
+
+pub still_same : {a b c : Arms} → SameTables a b → SameTables b c → SameTables a c
+still_same s t =
+    record {
+      timers = s.timers ∙ t.timers;
+      registers = s.registers ∙ t.registers;
+      x = s.x ∙ t.x;
+      y = s.y ∙ t.y;
+      z = s.z ∙ t.z;
+      w = s.w ∙ t.w;
+      inputs = s.inputs ∙ t.inputs;
+      outputs = s.outputs ∙ t.outputs;
+      memory = s.memory ∙ t.memory;
+      on = s.on ∙ t.on;
+    }
 
 -- ---- bytes of input
 
@@ -119,7 +133,7 @@ take_again zero s t = refl
 take_again (suc n) [] t = refl
 take_again (suc n) (a ∷ s) t = ap (λ (l : List ℕ). a ∷ l) (take_again n s t)
 
-take_short : (n : ℕ) (s : List ℕ) → length (take n s) ≤ n
+pub take_short : (n : ℕ) (s : List ℕ) → length (take n s) ≤ n
 take_short zero s = omega arith
 take_short (suc n) [] = omega arith
 take_short (suc n) (a ∷ s) = omega (arith, take_short n s)
@@ -133,10 +147,10 @@ extended_all (b ∷ s) c h l =
 
 -- ---- the input's end
 
-module _ {held out : List ℕ} {p : Progress} (w : Within held out p) where
+module _ (held out : List ℕ) (p : Progress) (l : length held ≡ 513) where
   -- as many bytes are held as the progress says
   held_count : length (take p.held held) ≡ p.held
-  held_count = length-take-le p.held held (omega (arith, w.held_size, w.held_fits))
+  held_count = length-take-le p.held held (omega (arith, l, p.held_fits))
 
   pub finished_empty : (st : List ℕ) (t : Tables) → p.held ≡ 0 → finished (cell_of st t held out p) ≡ cell_of st t held out p
   unfolding finished
@@ -147,4 +161,4 @@ module _ {held out : List ℕ} {p : Progress} (w : Within held out p) where
   finished_more st t n = rw (ne_eqb (length (take p.held held)) 0 (λ e. n (sym held_count ∙ e)))
 
   pub line_grown : {st line : List ℕ} {t : Tables} (s : List ℕ) → NoFeed s → line ≡ take 513 (take p.held held ++ s) → record { box = box st t; line = line; output = take p.waiting out } ≡ taken_all (cell_of st t held out p) s
-  line_grown {st} {line} {t} s h e = rw e (sym (extended_all s (cell_of st t held out p) h (omega (arith, held_count, w.held_fits))))
+  line_grown {st} {line} {t} s h e = rw e (sym (extended_all s (cell_of st t held out p) h (omega (arith, held_count, p.held_fits))))

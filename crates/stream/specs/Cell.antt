@@ -3,7 +3,7 @@ use Rattle.std.specs.Prelude.{ℕ, ◌≤◌, ◌≡◌, cond, List, [], ◌∷�
 use Rattle.tables.specs.Tables.{Tables}
 use Rattle.model.specs.Box.{Box, box}
 use Rattle.answers.specs.Answers.{line_answer, box_after}
-use Rattle.stream.specs.declared.input.Progress.{Progress}
+use Rattle.stream.specs.declared.progress.Progress.{Progress}
 
 -- the box, what is held of the line that has not ended, the answers that wait to be written
 pub record Cell : Type 0 where
@@ -47,13 +47,6 @@ preceded w c = record { box = c.box; line = c.line; output = w ++ c.output }
 abbrev pub cell_of : List ℕ → Tables → List ℕ → List ℕ → Progress → Cell
 cell_of st t held out p =
     record { box = box st t; line = take p.held held; output = take p.waiting out }
-
--- the lent bytes are as many as the program has, and the progress is within them
-pub record Within (held out : List ℕ) (p : Progress) : Type 0 where
-  pub held_size : length held ≡ 513
-  pub out_size : length out ≡ 65536
-  pub held_fits : p.held ≤ 513
-  pub waiting_fits : p.waiting ≤ 65536
 
 -- so many bytes of the input were taken: c is the state before and d after
 pub record Took (c : Cell) (input : List ℕ) (n : ℕ) (d : Cell) : Type 0 where

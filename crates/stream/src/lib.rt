@@ -5,4 +5,5 @@
 // definition of specs/; that the answers are those of the input's lines, however it is cut, is proved in proofs/.
 #![tactic(auto)]
 
+pub mod progress; // progress.rt: how far the program is
 pub mod input; // input.rt: a block of input taken, and the input's end

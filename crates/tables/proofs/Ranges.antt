@@ -3,10 +3,7 @@ use Prim.Native.Nat.{ℕ, ◌≤◌, ◌<◌}
 use mathlib.Core.Path.{◌≡◌, refl}
 use mathlib.Core.Bool.{true, false}
 use native.Mathlib.Omega.{arith}
-use lib.IntN.{ℤ, pos, negsuc, nat_abs}
-use mir.Facts.{to_z-of_z}
-use mir.Syntax.{w32}
-use mir.Val.{to_z, of_z}
+use lib.IntN.{ℤ, nat_abs}
 use Rattle.commands.specs.declared.table.Kind.{Kind}
 use Rattle.commands.specs.declared.table.Kind.TheVariants as kind
 use Rattle.steps.specs.Step.{is_step}
@@ -50,39 +47,30 @@ load_bound (load.MemoryBit g) h = let p = passed _ _ _ h in (p.low, omega (arith
 load_bound (load.MemoryPort p) h = omega (arith, (passed _ _ _ h).high)
 load_bound (load.Step n) h = omega (arith, (passed _ _ _ h).high)
 
--- a value whose size is below a limit, and which 32 bits keep
-pub record Small (limit : ℕ) (v : ℤ) : Type 0 where
-  pub size : nat_abs v < limit
-  pub same : to_z w32 (of_z w32 v) ≡ v
-
-in_word : (v : ℤ) → nat_abs v < 65536 → to_z w32 (of_z w32 v) ≡ v
-in_word (pos n) h = to_z-of_z {w = w32} {z = pos n} (record { sfits = omega arith })
-in_word (negsuc n) h = to_z-of_z {w = w32} {z = negsuc n} (record { sfits = omega arith })
-
-small : (k : Kind) (limit : ℕ) (v : ℤ) → all_in_range k (one v) ≡ true → nat_abs (limits_of k).high < limit → limit ≤ 65536 → Small limit v
-small k limit v h l w =
+small : (k : Kind) (limit : ℕ) (v : ℤ) → all_in_range k (one v) ≡ true → nat_abs (limits_of k).high < limit → nat_abs v < limit
+small k limit v h l =
     let s : nat_abs v ≤ nat_abs (limits_of k).high = in_size k v (all_x k (one v) h) in
-    record { size = omega arith; same = in_word v (omega arith) }
+    omega arith
 
 -- of the data of an SN
 abbrev pub DataBound : Store → Type 0
-DataBound (store.Timer n v) = Small 65536 v
-DataBound (store.Register n v) = Small 65536 v
+DataBound (store.Timer n v) = nat_abs v < 65536
+DataBound (store.Register n v) = nat_abs v < 65536
 DataBound (store.Row n r) = Unit
-DataBound (store.Output g v) = Small 2 v
-DataBound (store.OutputPort p v) = Small 256 v
-DataBound (store.MemoryBit g v) = Small 2 v
-DataBound (store.MemoryPort p v) = Small 256 v
+DataBound (store.Output g v) = nat_abs v < 2
+DataBound (store.OutputPort p v) = nat_abs v < 256
+DataBound (store.MemoryBit g v) = nat_abs v < 2
+DataBound (store.MemoryPort p v) = nat_abs v < 256
 DataBound (store.Step n s) = is_step s ≡ true
 
 data_bound : (q : Store) → StoreInRange q → DataBound q
-data_bound (store.Timer n v) h = small kind.Timer 65536 v (passed _ _ _ h).payload (omega arith) (omega arith)
-data_bound (store.Register n v) h = small kind.Register 65536 v (passed _ _ _ h).payload (omega arith) (omega arith)
+data_bound (store.Timer n v) h = small kind.Timer 65536 v (passed _ _ _ h).payload (omega arith)
+data_bound (store.Register n v) h = small kind.Register 65536 v (passed _ _ _ h).payload (omega arith)
 data_bound (store.Row n r) h = tt
-data_bound (store.Output g v) h = small kind.Signal 2 v (passed _ _ _ h).payload (omega arith) (omega arith)
-data_bound (store.OutputPort p v) h = small kind.Port 256 v (passed _ _ _ h).payload (omega arith) (omega arith)
-data_bound (store.MemoryBit g v) h = small kind.Signal 2 v (passed _ _ _ h).payload (omega arith) (omega arith)
-data_bound (store.MemoryPort p v) h = small kind.Port 256 v (passed _ _ _ h).payload (omega arith) (omega arith)
+data_bound (store.Output g v) h = small kind.Signal 2 v (passed _ _ _ h).payload (omega arith)
+data_bound (store.OutputPort p v) h = small kind.Port 256 v (passed _ _ _ h).payload (omega arith)
+data_bound (store.MemoryBit g v) h = small kind.Signal 2 v (passed _ _ _ h).payload (omega arith)
+data_bound (store.MemoryPort p v) h = small kind.Port 256 v (passed _ _ _ h).payload (omega arith)
 data_bound (store.Step n s) h = (passed _ _ _ h).payload
 
 -- the number of an SN is one of its LN's: they share a row of the command table

@@ -178,10 +178,6 @@ LoadInRange l = judge_request (request.Load l) ≡ 0
 abbrev pub StoreInRange : Store → Type 0
 StoreInRange q = judge_request (request.Store q) ≡ 0
 
--- r is what an LN answers, whatever number of outputs is kept
-abbrev pub Loaded : ℕ → Load → (List ℕ → Tables) → Outcome → Type 0
-Loaded s l t r = (on : List ℕ) → r ≡ loaded s l (t on)
-
 -- an LN changes nothing
 abbrev pub performed : ℕ → Request → Tables → Tables
 performed s (request.Load l) t = t

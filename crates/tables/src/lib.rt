@@ -6,4 +6,5 @@
 // table at exit with definitions of specs/.
 #![tactic(auto)]
 
+pub mod arms; // arms.rt: the lent tables
 pub mod perform; // perform.rt: one request on one arm

@@ -1,24 +1,28 @@
-// One typed request on one arm. The tables come first, always in the same order. A load takes them as they
-// are; a store replaces what stands under its number, and nothing else. What tables of different width share
-// takes the slot's part of a table, as a slice.
-ghost use Rattle.std.specs.Prelude.{◌≡◌, ◌<◌, length, get_or, set, nat_abs, pos};
+// One typed request on one arm. A load takes the tables as they are; a store replaces what stands under its number, and
+// nothing else. What tables of different width share takes the slot's part of a table, as a slice.
+ghost use Rattle.std.specs.Prelude.{◌≡◌, ◌<◌, List, ℕ, length, get_or, set, nat_abs, pos};
 ghost use Rattle.replies.specs.declared.reply.Data.TheVariants as held;
-ghost use Rattle.programs.specs.Memory.{size, step_at};
+ghost use Rattle.programs.specs.Memory.{step_at};
 ghost use Rattle.replies.specs.Reply.{step_outcome};
 ghost use Rattle.harl.specs.Message.{judge_request};
-ghost use Rattle.tables.specs.Tables.{Tables, columns, row_at, tables, atz2, set2, stored, LoadInRange, StoreInRange, Loaded, Performed};
+ghost use Rattle.tables.specs.Tables.{columns, row_at, each_with, with_rows, atz2, set2, loaded, stored, LoadInRange, StoreInRange, Performed};
+ghost use Rattle.tables.specs.Arms.{tables_of, SameTables};
 
+use crate::arms::Arms;
 use commands::request::{Load, Request, Row, Store};
 use ports::access::{
     load_port, load_signal, store_bit, store_output, store_output_port, store_port,
 };
-use ports::place::{memory_place, signal_place};
-use programs::memory::{Found, load_step, store_step};
+use ports::signal::place_of;
+use programs::memory::Programs;
+use programs::slot::Slot;
+use refusals::refusal::Refusal;
 use replies::reply::{Data, Outcome};
-use text::hundredths::unsigned_abs;
 
-// The refusal of a step that was never written.
-const EMPTY: u8 = 16;
+// The number of the first input and output, and of the first memory bit.
+const FIRST_SIGNAL: u16 = 0;
+
+const FIRST_MEMORY_BIT: u16 = 256;
 
 // The value of a timer or a register.
 fn load_word(words: &[u16], n: u16) -> i32
@@ -29,75 +33,21 @@ fn load_word(words: &[u16], n: u16) -> i32
 }
 
 // One field of a row.
-fn load_offset(offsets: &[[i32; 100]; 4], slot: usize, n: u16) -> i32
-    requires { (slot < 4) × (n < 100) }
-    ensures { result ≡ atz2 offsets.now slot n }
+fn load_offset(offsets: &[[i32; 100]; 4], slot: Slot, n: u16) -> i32
+    requires { n < 100 }
+    ensures { result ≡ atz2 offsets.now slot.index n }
 {
-    offsets[slot][n as usize]
-}
-
-// The fields of a row.
-fn load_row(
-    x: &[[i32; 100]; 4],
-    y: &[[i32; 100]; 4],
-    z: &[[i32; 100]; 4],
-    w: &[[i32; 100]; 4],
-    slot: usize,
-    n: u16,
-) -> Data
-    requires { (slot < 4) × (n < 100) }
-    ensures { result ≡ held.Row (row_at slot n (columns x.now y.now z.now w.now)) }
-{
-    Data::Row(Row {
-        x: load_offset(x, slot, n),
-        y: load_offset(y, slot, n),
-        z: load_offset(z, slot, n),
-        w: load_offset(w, slot, n),
-    })
+    offsets[slot.index][n as usize]
 }
 
 // What is replied of step n of slot's program.
-fn load_program(programs: &[u8], slot: usize, n: u16) -> Outcome
-    requires { (length programs.now ≡ size) × ((slot < 4) × (n < 256)) }
-    ensures { result ≡ step_outcome n (step_at programs.now slot n) }
+fn load_program(programs: &Programs<'_>, slot: Slot, n: u16) -> Outcome
+    requires { n < 256 }
+    ensures { result ≡ step_outcome n (step_at programs.now.bytes.now slot.index n) }
 {
-    let found = load_step(programs, slot, n);
-    match found {
-        Found::Of(step) => Outcome::Data(Data::Step(n, step)),
-        Found::Empty => Outcome::Status(EMPTY),
-    }
-}
-
-// What slot's arm holds under the number of a load, whatever the number of outputs that is kept.
-fn run_load(
-    timers: &[[u16; 16]; 4],
-    registers: &[[u16; 64]; 4],
-    x: &[[i32; 100]; 4],
-    y: &[[i32; 100]; 4],
-    z: &[[i32; 100]; 4],
-    w: &[[i32; 100]; 4],
-    inputs: &[[u8; 32]; 4],
-    outputs: &[[u8; 32]; 4],
-    memory: &[[u8; 16]; 4],
-    programs: &[u8],
-    slot: usize,
-    load: Load,
-) -> Outcome
-    requires slot_bound { (slot < 4) × LoadInRange load }
-    requires programs_len { length programs.now ≡ size }
-    ensures { Loaded slot load (λ on. tables timers.now registers.now x.now y.now z.now w.now inputs.now outputs.now memory.now on programs.now) result }
-{
-    match load {
-        Load::Timer(n) => Outcome::Data(Data::Timer(load_word(&timers[slot][..], n))),
-        Load::Register(n) => Outcome::Data(Data::Register(load_word(&registers[slot][..], n))),
-        Load::Row(n) => Outcome::Data(load_row(x, y, z, w, slot, n)),
-        Load::Input(s) => Outcome::Data(load_signal(&inputs[slot][..], signal_place(s))),
-        Load::InputPort(p) => Outcome::Data(load_port(&inputs[slot][..], p)),
-        Load::Output(s) => Outcome::Data(load_signal(&outputs[slot][..], signal_place(s))),
-        Load::OutputPort(p) => Outcome::Data(load_port(&outputs[slot][..], p)),
-        Load::MemoryBit(s) => Outcome::Data(load_signal(&memory[slot][..], memory_place(s))),
-        Load::MemoryPort(p) => Outcome::Data(load_port(&memory[slot][..], p)),
-        Load::Step(n) => load_program(programs, slot, n),
+    match programs.load(slot, n as u8) {
+        Some(step) => Outcome::Data(Data::Step(n, step)),
+        None => Outcome::Status(Refusal::Empty.number()),
     }
 }
 
@@ -106,108 +56,112 @@ fn store_word(words: &mut [u16], n: u16, v: i32)
     requires { (n < length words.old) × (nat_abs v < 65536) }
     ensures { words.new ≡ set words.old n (nat_abs v) }
 {
-    words[n as usize] = unsigned_abs(v) as u16;
+    words[n as usize] = v.unsigned_abs() as u16;
 }
 
 // Replaces one field of a row.
-fn store_offset(offsets: &mut [[i32; 100]; 4], slot: usize, n: u16, v: i32)
-    requires { (slot < 4) × (n < 100) }
-    ensures { offsets.new ≡ set2 offsets.old slot n v }
+fn store_offset(offsets: &mut [[i32; 100]; 4], slot: Slot, n: u16, v: i32)
+    requires { n < 100 }
+    ensures { offsets.new ≡ set2 offsets.old slot.index n v }
 {
-    offsets[slot][n as usize] = v;
+    offsets[slot.index][n as usize] = v;
 }
 
-// Replaces the fields of a row.
-fn store_row(
-    x: &mut [[i32; 100]; 4],
-    y: &mut [[i32; 100]; 4],
-    z: &mut [[i32; 100]; 4],
-    w: &mut [[i32; 100]; 4],
-    slot: usize,
-    n: u16,
-    row: Row,
-)
-    requires { (slot < 4) × (n < 100) }
-    ensures x_after { x.new ≡ set2 x.old slot n row.x }
-    ensures y_after { y.new ≡ set2 y.old slot n row.y }
-    ensures z_after { z.new ≡ set2 z.old slot n row.z }
-    ensures w_after { w.new ≡ set2 w.old slot n row.w }
-{
-    store_offset(x, slot, n, row.x);
-    store_offset(y, slot, n, row.y);
-    store_offset(z, slot, n, row.z);
-    store_offset(w, slot, n, row.w);
-}
-
-// Replaces what slot's arm holds under the number of a store by its data.
-fn run_store(
-    timers: &mut [[u16; 16]; 4],
-    registers: &mut [[u16; 64]; 4],
-    x: &mut [[i32; 100]; 4],
-    y: &mut [[i32; 100]; 4],
-    z: &mut [[i32; 100]; 4],
-    w: &mut [[i32; 100]; 4],
-    inputs: &mut [[u8; 32]; 4],
-    outputs: &mut [[u8; 32]; 4],
-    memory: &mut [[u8; 16]; 4],
-    on: &mut [u16; 4],
-    programs: &mut [u8],
-    slot: usize,
-    store: Store,
-)
-    ghost t: { Tables }
-    requires programs_value { tables timers.old registers.old x.old y.old z.old w.old inputs.old outputs.old memory.old on.old programs.old ≡ t }
-    requires slot_bound { (slot < 4) × StoreInRange store }
-    requires programs_len { length programs.old ≡ size }
-    ensures { tables timers.new registers.new x.new y.new z.new w.new inputs.new outputs.new memory.new on.new programs.new ≡ stored slot store t }
-{
-    match store {
-        Store::Timer(n, v) => store_word(&mut timers[slot][..], n, v),
-        Store::Register(n, v) => store_word(&mut registers[slot][..], n, v),
-        Store::Row(n, row) => store_row(x, y, z, w, slot, n, row),
-        Store::Output(s, v) => {
-            on[slot] = store_output(&mut outputs[slot][..], on[slot], signal_place(s), v);
-        }
-        Store::OutputPort(p, v) => {
-            on[slot] = store_output_port(&mut outputs[slot][..], on[slot], p, v);
-        }
-        Store::MemoryBit(s, v) => store_bit(&mut memory[slot][..], memory_place(s), v),
-        Store::MemoryPort(p, v) => store_port(&mut memory[slot][..], p, v),
-        Store::Step(n, step) => store_step(programs, slot, n, step),
+impl Arms<'_> {
+    // The fields of a row.
+    fn load_row(&self, slot: Slot, n: u16) -> Data
+        requires { n < 100 }
+        ensures { result ≡ held.Row (row_at slot.index n (columns self.now.x.now self.now.y.now self.now.z.now self.now.w.now)) }
+    {
+        Data::Row(Row {
+            x: load_offset(self.x, slot, n),
+            y: load_offset(self.y, slot, n),
+            z: load_offset(self.z, slot, n),
+            w: load_offset(self.w, slot, n),
+        })
     }
-}
 
-// Performs a request on slot's arm: a load returns its data, or EMPTY, and changes nothing; a store returns status 0.
-pub fn perform(
-    timers: &mut [[u16; 16]; 4],
-    registers: &mut [[u16; 64]; 4],
-    x: &mut [[i32; 100]; 4],
-    y: &mut [[i32; 100]; 4],
-    z: &mut [[i32; 100]; 4],
-    w: &mut [[i32; 100]; 4],
-    inputs: &mut [[u8; 32]; 4],
-    outputs: &mut [[u8; 32]; 4],
-    memory: &mut [[u8; 16]; 4],
-    on: &mut [u16; 4],
-    programs: &mut [u8],
-    slot: usize,
-    request: Request,
-) -> Outcome
-    ghost t: { Tables }
-    requires programs_value { tables timers.old registers.old x.old y.old z.old w.old inputs.old outputs.old memory.old on.old programs.old ≡ t }
-    requires slot_bound { (slot < 4) × (judge_request request ≡ 0) }
-    requires programs_len { length programs.old ≡ size }
-    ensures { Performed slot request t (tables timers.new registers.new x.new y.new z.new w.new inputs.new outputs.new memory.new on.new programs.new) result }
-{
-    match request {
-        Request::Load(load) => run_load(
-            timers, registers, x, y, z, w, inputs, outputs, memory, programs, slot, load,
-        ),
-        Request::Store(store) => {
-            run_store(
-                timers, registers, x, y, z, w, inputs, outputs, memory, on, programs, slot, store,
-            );
-            Outcome::Status(0)
+    // What slot's arm holds under the number of a load.
+    #[tactic(auto, unfolding(crate::specs::Tables::loaded))]
+    fn load(&self, programs: &Programs<'_>, slot: Slot, load: Load) -> Outcome
+        requires { LoadInRange load }
+        ensures { result ≡ loaded slot.index load (tables_of self.now programs.now.bytes.now) }
+    {
+        let k = slot.index;
+        // The borrow checker does not cover `self.timers[k]` here: an element of an array behind a `&mut` behind a `&`.
+        let (timers, registers) = (&*self.timers, &*self.registers);
+        let (inputs, outputs, memory) = (&*self.inputs, &*self.outputs, &*self.memory);
+        match load {
+            Load::Timer(n) => Outcome::Data(Data::Timer(load_word(&timers[k], n))),
+            Load::Register(n) => Outcome::Data(Data::Register(load_word(&registers[k], n))),
+            Load::Row(n) => Outcome::Data(self.load_row(slot, n)),
+            Load::Input(s) => Outcome::Data(load_signal(&inputs[k], place_of(FIRST_SIGNAL, s))),
+            Load::InputPort(p) => Outcome::Data(load_port(&inputs[k], p)),
+            Load::Output(s) => Outcome::Data(load_signal(&outputs[k], place_of(FIRST_SIGNAL, s))),
+            Load::OutputPort(p) => Outcome::Data(load_port(&outputs[k], p)),
+            Load::MemoryBit(s) => {
+                Outcome::Data(load_signal(&memory[k], place_of(FIRST_MEMORY_BIT, s)))
+            }
+            Load::MemoryPort(p) => Outcome::Data(load_port(&memory[k], p)),
+            Load::Step(n) => load_program(programs, slot, n),
+        }
+    }
+
+    // Replaces the fields of a row.
+    fn store_row(&mut self, slot: Slot, n: u16, row: Row)
+        requires { n < 100 }
+        ensures tables_after { (m : List ℕ) → tables_of self.new m ≡ with_rows (tables_of self.old m) (each_with (λ c v. set2 c slot.index n v) (tables_of self.old m).rows row) }
+        ensures same_tables { SameTables self.old self.new }
+    {
+        store_offset(self.x, slot, n, row.x);
+        store_offset(self.y, slot, n, row.y);
+        store_offset(self.z, slot, n, row.z);
+        store_offset(self.w, slot, n, row.w);
+    }
+
+    // Replaces what slot's arm holds under the number of a store by its data.
+    #[tactic(auto, unfolding(crate::specs::Tables::stored))]
+    fn store(&mut self, programs: &mut Programs<'_>, slot: Slot, store: Store)
+        requires { StoreInRange store }
+        ensures tables_after { tables_of self.new programs.new.bytes.now ≡ stored slot.index store (tables_of self.old programs.old.bytes.now) }
+        ensures same_tables { SameTables self.old self.new }
+        ensures same_memory { programs.new.bytes.ghost_name ≡ programs.old.bytes.ghost_name }
+    {
+        let k = slot.index;
+        // The borrow checker does not cover a read of `self.on[k]` while the ports are lent.
+        match store {
+            Store::Timer(n, v) => store_word(&mut self.timers[k], n, v),
+            Store::Register(n, v) => store_word(&mut self.registers[k], n, v),
+            Store::Row(n, row) => self.store_row(slot, n, row),
+            Store::Output(s, v) => {
+                let on = self.on[k];
+                self.on[k] = store_output(&mut self.outputs[k], on, place_of(FIRST_SIGNAL, s), v);
+            }
+            Store::OutputPort(p, v) => {
+                let on = self.on[k];
+                self.on[k] = store_output_port(&mut self.outputs[k], on, p, v);
+            }
+            Store::MemoryBit(s, v) => {
+                store_bit(&mut self.memory[k], place_of(FIRST_MEMORY_BIT, s), v)
+            }
+            Store::MemoryPort(p, v) => store_port(&mut self.memory[k], p, v),
+            Store::Step(n, step) => programs.store(slot, n as u8, step),
+        }
+    }
+
+    // Performs a request on slot's arm: a load returns its data, or EMPTY, and changes nothing; a store returns status 0.
+    pub fn perform(&mut self, programs: &mut Programs<'_>, slot: Slot, request: Request) -> Outcome
+        requires { judge_request request ≡ 0 }
+        ensures performed { Performed slot.index request (tables_of self.old programs.old.bytes.now) (tables_of self.new programs.new.bytes.now) result }
+        ensures same_tables { SameTables self.old self.new }
+        ensures same_memory { programs.new.bytes.ghost_name ≡ programs.old.bytes.ghost_name }
+    {
+        match request {
+            Request::Load(load) => self.load(programs, slot, load),
+            Request::Store(store) => {
+                self.store(programs, slot, store);
+                Outcome::Status(0)
+            }
         }
     }
 }

@@ -1,14 +1,17 @@
--- The invariant: i bytes are taken, the output has room for another answer, and the lent memory is as long as it was.
+-- The invariant: i bytes are taken, what is held and what waits are within their bounds, the output has room for another
+-- answer, and the lent memory is as long as it was.
 use Prim.Native.Nat.{◌+◌, ◌-◌, ◌≤◌}
 use mathlib.Core.Path.{◌≡◌}
 use lib.ListN.{length, take}
-use Rattle.tables.specs.Tables.{tables}
-use Rattle.stream.specs.Cell.{cell_of, Within}
+use Rattle.tables.specs.Arms.{tables_of, SameTables}
+use Rattle.model.specs.Box.{box}
+use Rattle.stream.specs.Cell.{cell_of}
 use Rattle.cell.specs.Block.{BlockTaken}
 use Rattle.cell.proofs.answer_block.Given as goal
 
+-- of the state, `.0` is held and `.1.0` is waiting
 abbrev pub invariant-loop-i : goal.invariant-loop-i
-invariant-loop-i l = (l.i ≤ length l.input) × (Within l.held l.out l.state × ((l.state.waiting + 132 ≤ 65536) × (BlockTaken (cell_of l.stations (tables l.initial.timers l.initial.registers l.initial.x l.initial.y l.initial.z l.initial.w l.initial.inputs l.initial.outputs l.initial.memory l.initial.on l.initial.programs) l.initial.held l.initial.out l.initial.state) (take l.i l.input) (cell_of l.stations (tables l.timers l.registers l.x l.y l.z l.w l.inputs l.outputs l.memory l.on l.programs) l.held l.out l.state) × (length l.programs ≡ length l.initial.programs))))
+invariant-loop-i l = (l.i ≤ length l.input) × (((l.state.0 ≤ 513) × (l.state.1.0 + 132 ≤ 65536)) × (BlockTaken (cell_of l.stations (tables_of l.initial.arms l.initial.programs) l.initial.held l.initial.out l.fn.start) (take l.i l.input) (record { box = box l.stations (tables_of l.arms l.programs); line = take l.state.0 l.held; output = take l.state.1.0 l.out }) × (SameTables l.initial.arms l.arms × (length l.programs ≡ length l.initial.programs))))
 
 abbrev pub decreases-loop-i : goal.decreases-loop-i
 decreases-loop-i l = length l.input - l.i

@@ -42,8 +42,8 @@ module _ {b : Box} {slice xs ys : List ℕ} {sent : Sent} {t : Tables} (room : l
 
 pub put_answer-requires : goal.put_answer-requires
 put_answer-requires c =
-    line_fits refl c.serve-sent.ensures _ _ _ (omega arith)
+    line_fits refl c.serve-sent.ensures.served _ _ _ (omega arith)
 
-pub returns : goal.returns
-returns c =
-    answered refl c.serve-sent.ensures c.put_answer.ensures
+pub returns-clause-answered : goal.returns-clause-answered
+returns-clause-answered c =
+    answered refl c.serve-sent.ensures.served c.put_answer.ensures

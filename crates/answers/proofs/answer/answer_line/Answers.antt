@@ -1,5 +1,5 @@
 use Prim.Native.Nat.{ℕ, ◌≤◌}
-use mathlib.Core.Path.{◌≡◌, refl, sym, ◌∙◌, subst}
+use mathlib.Core.Path.{◌≡◌, refl, sym}
 use mathlib.Core.Bool.{true, false}
 use mathlib.Core.List.{List}
 use native.Mathlib.Omega.{arith}
@@ -8,26 +8,22 @@ use Rattle.text.specs.Put.{PutAt}
 use Rattle.frame.proofs.Writing.{front_is}
 use Rattle.tables.specs.Tables.{Tables}
 use Rattle.model.specs.Box.{Box}
-use Rattle.lines.specs.declared.reader.Line.{Line}
-use Rattle.lines.specs.declared.reader.Line.TheVariants.{Slice}
-use Rattle.lines.specs.Lines.{is_call, slice_of, line_of, held_after, Short, no_call_line}
+use Rattle.std.specs.Prelude.{Some}
+use Rattle.lines.specs.Lines.{is_call, slice_of, line_of, held_after, no_call_line}
 use Rattle.lines.proofs.Laws.{read_slice, read_no_call}
 use Rattle.answers.specs.Answers.{line_answer, box_after, CallAnswered, LineAnswered}
 use Rattle.answers.proofs.answer.answer_line.Goals as goal
 
 -- ---- a line that is a slice of n bytes, which stand at the front of sl
 
-module _ (line xs : List ℕ) {sl : List ℕ} {what : Line} {n : ℕ} (room : length xs ≡ 256) (found : what ≡ Slice n) (read : (what ≡ line_of line) × Short what) (held : sl ≡ held_after xs line) where
+module _ (line xs : List ℕ) {sl : List ℕ} {n : ℕ} (room : length xs ≡ 256) (read : (Some n ≡ line_of line) × (n ≤ 256)) (held : sl ≡ held_after xs line) where
   call_is : (is_call line ≡ true) × (n ≡ length (slice_of line))
-  call_is = read_slice line n (sym read.0 ∙ found)
-
-  short : n ≤ 256
-  short = subst Short found read.1
+  call_is = read_slice line n (sym read.0)
 
   slice_is : take n sl ≡ slice_of line
   unfolding held_after
   slice_is =
-      let k : length (slice_of line) ≤ length xs = omega (arith, short, call_is.1) in
+      let k : length (slice_of line) ≤ length xs = omega (arith, read.1, call_is.1) in
       rw (held, call_is.0, call_is.1) (front_is xs (slice_of line) k)
 
   call_answered : {b : Box} {zs us : List ℕ} {at r : ℕ} {t : Tables} → CallAnswered b (take n sl) zs at r us t → LineAnswered b line zs at r us t
@@ -46,10 +42,10 @@ unfolding line_answer box_after
 none_answered q p =
     record { answer_is = rw q p; tables_are = rw q; short = omega (arith, p.next) }
 
-pub returns-in-Slice : goal.returns-in-Slice
-returns-in-Slice c =
-    call_answered _ _ refl c.in-Slice.is c.read_line-what.ensures.value c.read_line-what.ensures.slice_after c.answer_call.ensures
+pub returns-in-Some-clause-answered : goal.returns-in-Some-clause-answered
+returns-in-Some-clause-answered c =
+    call_answered _ _ refl c.in-Some.ensures.value c.in-Some.ensures.slice_after c.answer_call.ensures.answered
 
-pub returns-in-NoCall : goal.returns-in-NoCall
-returns-in-NoCall c =
-    none_answered (read_no_call _ (sym c.read_line-what.ensures.value.0 ∙ c.in-NoCall.is)) c.put_no_call.ensures
+pub returns-in-None-clause-answered : goal.returns-in-None-clause-answered
+returns-in-None-clause-answered c =
+    none_answered (read_no_call _ (sym c.in-None.ensures.value.0)) c.put_no_call.ensures

@@ -1,28 +1,28 @@
-use Prim.Native.Nat.{suc, ◌+◌}
-use mathlib.Core.Path.{◌≡◌, sym, ap, ◌∙◌}
-use native.Mathlib.Omega.{arith}
-use native.Mathlib.Numerals.{add-one}
-use lib.ListN.{length, length-set}
+use Rattle.std.proofs.Common.{◌≡◌, suc, ◌+◌, length, sym, ap, ◌∙◌, add-one, arith}
+use lib.ListN.{length-set}
 use Rattle.lines.proofs.Laws.{hex_more, hex_end}
 use Rattle.lines.proofs.writer.put_hex.Goals as goal
 
 pub bounds-out-p : goal.bounds-out-p
 bounds-out-p c =
-    let m = hex_more c.args.s.now c.loop-i.i (omega arith) in
-    omega (arith, ap length m)
+    let m = hex_more c.args.s.now c.loop-b.b-index (omega arith) in
+    omega (arith, c.loop-b.invariant.place, ap length m)
 
-pub bounds-out-p-in-loop-i : goal.bounds-out-p-in-loop-i
-bounds-out-p-in-loop-i c =
-    let m = hex_more c.args.s.now c.loop-i.i (omega arith) in
-    simp length-set (omega (arith, ap length m))
+pub bounds-out-p-in-loop-b : goal.bounds-out-p-in-loop-b
+bounds-out-p-in-loop-b c =
+    let m = hex_more c.args.s.now c.loop-b.b-index (omega arith) in
+    simp length-set (omega (arith, c.loop-b.invariant.place, ap length m))
 
-pub loop-i-preserved : goal.loop-i-preserved
-loop-i-preserved c =
-    let m = hex_more c.args.s.now c.loop-i.i (omega arith) in
-    let e : c.loop-i.p + 1 + 1 ≡ suc (suc c.loop-i.p) = omega arith in
-    (omega arith, (omega (arith, ap length m), (simp length-set c.loop-i.invariant.1.1.0, c.loop-i.invariant.1.1.1 ∙ rw (m, c.capital_of-in-loop-i.ensures, c.capital_of.ensures, e, add-one c.loop-i.p))))
+pub loop-b-preserved : goal.loop-b-preserved
+loop-b-preserved c =
+    let m = hex_more c.args.s.now c.loop-b.b-index (omega arith) in
+    let e : c.loop-b.p + 2 ≡ suc (suc c.loop-b.p) = omega arith in
+    record {
+      place = omega (arith, c.loop-b.invariant.place, ap length m);
+      written = c.loop-b.invariant.written ∙ rw (m, c.capital_of-in-loop-b.ensures, c.capital_of.ensures, e, add-one c.loop-b.p);
+    }
 
 pub returns : goal.returns
 returns c =
-    let e = hex_end c.args.s.now c.loop-i.i (omega arith) in
-    record { next = omega (arith, ap length e); area = sym (c.loop-i.invariant.1.1.1 ∙ rw e) }
+    let e = hex_end c.args.s.now c.loop-b.b-index (omega arith) in
+    record { next = omega (arith, ap length e, c.loop-b.invariant.place); area = sym (c.loop-b.invariant.written ∙ rw e) }

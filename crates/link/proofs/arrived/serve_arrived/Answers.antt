@@ -2,6 +2,7 @@ use Prim.Native.Nat.{ℕ, ◌+◌, ◌-◌, ◌≤◌, ◌<◌}
 use mathlib.Core.Path.{◌≡◌, refl, ap, ◌∙◌}
 use mathlib.Core.List.{List}
 use native.Mathlib.Omega.{arith}
+use borrow.Author.Rules.{rules}
 use lib.ListN.{length, take, drop, length-drop}
 use lib.Seq.{take-add}
 use Rattle.text.proofs.Laws.{rest}
@@ -28,9 +29,22 @@ module _ (s : List ℕ) (i : ℕ) where
 pub loop-i-init : goal.loop-i-init
 unfolding slices_from held_from
 loop-i-init c =
-    (omega arith, (omega (arith, c.requires), (refl, none_served refl refl)))
+    record {
+      bound = omega arith;
+      room = omega (arith, c.requires);
+      served = none_served refl refl;
+      same_tables = search rules;
+      same_state = search rules;
+    }
 
 pub loop-i-preserved : goal.loop-i-preserved
 loop-i-preserved c =
     let w = part_taken c.args.arrived.now c.loop-i.i c.loop-i-test.true c.serve_next-part.ensures.taken_in_bounds in
-    (w.0, (omega (arith, c.serve_next-part.ensures.at_bound, c.loop-i.invariant.1.0, w.0, w.1, area_length c.serve_next-part.ensures.line_served), (c.serve_next-part.auto.programs ∙ c.loop-i.invariant.1.1.0, part_served c.args.arrived.now c.loop-i.i _ c.loop-i.invariant.1.1.1 c.serve_next-part.ensures.line_served)))
+    let k = c.loop-i.invariant in
+    record {
+      bound = w.0;
+      room = omega (arith, c.serve_next-part.ensures.at_bound, k.room, w.0, w.1, area_length c.serve_next-part.ensures.line_served);
+      served = part_served c.args.arrived.now c.loop-i.i _ k.served c.serve_next-part.ensures.line_served;
+      same_tables = search rules;
+      same_state = search rules;
+    }

@@ -1,5 +1,5 @@
 -- The bytes before LF, which the search found, are part of the line.
-use Prim.Native.Nat.{◌<◌}
+use Prim.Native.Nat.{◌<◌, ◌≤◌}
 use mathlib.Core.Path.{sym, ap, ◌∙◌}
 use native.Mathlib.Omega.{arith}
 use lib.ListN.{length, take}
@@ -9,16 +9,19 @@ use Rattle.stream.proofs.input.take_line.Goals as goal
 
 pub returns-then-n-input-clause-took : goal.returns-then-n-input-clause-took
 returns-then-n-input-clause-took c =
+    let e = rw (c.front.ensures.text, c.front.ensures.first) at c.find-n.ensures.0 in
     record {
-      within = c.find-n.ensures.1;
-      state_is = line_grown c.requires.within (take c.find-n.result c.args.input.now) (found_no_feed c.args.input.now c.find-n.result c.find-n.ensures.0) (rw c.front.ensures at c.take_bytes-more.ensures.0);
+      within = omega (arith, c.if-n-input.true);
+      state_is = line_grown c.args.held.now c.args.out.now c.args.start c.told-held (take c.find-n.result c.args.input.now) (found_no_feed c.args.input.now c.find-n.result e) (rw c.front-2.ensures at c.take_bytes-more.ensures.0);
     }
 
 pub returns-clause-took : goal.returns-clause-took
 returns-clause-took c =
-    let h : c.find-n.result < length c.args.input.now = omega (arith, c.find-n.ensures.1, c.if-n-input.false) in
-    let g = line_grown c.requires.within (take c.find-n.result c.args.input.now) (found_no_feed c.args.input.now c.find-n.result c.find-n.ensures.0) (rw c.front.ensures at c.take_bytes-more.ensures.0) in
+    let e = rw (c.front.ensures.text, c.front.ensures.first) at c.find-n.ensures.0 in
+    let m : c.find-n.result ≤ length c.args.input.now = rw c.front.ensures.text at c.find-n.ensures.1 in
+    let h : c.find-n.result < length c.args.input.now = omega (arith, m, c.if-n-input.false) in
+    let g = line_grown c.args.held.now c.args.out.now c.args.start c.told-held (take c.find-n.result c.args.input.now) (found_no_feed c.args.input.now c.find-n.result e) (rw c.front-2.ensures at c.take_bytes-more.ensures.0) in
     record {
       within = omega arith;
-      state_is = c.end_line-next.ensures.result_after ∙ ap ended g ∙ sym (taken_next _ c.args.input.now c.find-n.result h ∙ taken_end _ _ (found_feed c.args.input.now c.find-n.result c.find-n.ensures.0 h));
+      state_is = c.end_line-next.ensures.result_after ∙ ap ended g ∙ sym (taken_next _ c.args.input.now c.find-n.result h ∙ taken_end _ _ (found_feed c.args.input.now c.find-n.result e h));
     }
