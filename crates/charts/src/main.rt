@@ -7,7 +7,7 @@ mod printed; // printed.rt: the charts as printed
 
 use crate::printed::{memory_bits, signals};
 use commands::request::Signal;
-use ports::place::{memory_place, signal_place};
+use ports::signal::place_of;
 use print::{put, put_whole};
 
 #[derive(Clone, Copy)]
@@ -25,20 +25,14 @@ fn put_name(chart: Chart) {
 
 // Whether the gateway finds a number of a chart at a bit of a port.
 fn stands_at(chart: Chart, number: u16, port: usize, bit: u8) -> bool {
-    let place = match chart {
-        Chart::Signals => {
-            if 256 <= number {
-                return false;
-            }
-            signal_place(Signal(number))
-        }
-        Chart::MemoryBits => {
-            if number < 256 || 384 <= number {
-                return false;
-            }
-            memory_place(Signal(number))
-        }
+    let (first, end) = match chart {
+        Chart::Signals => (0, 256),
+        Chart::MemoryBits => (256, 384),
     };
+    if number < first || end <= number {
+        return false;
+    }
+    let place = place_of(first, Signal(number));
     place.port == port && place.bit == bit
 }
 
@@ -68,8 +62,8 @@ fn put_row(chart: Chart, port: usize, row: [u16; 8]) {
 }
 
 fn put_chart(chart: Chart, rows: &[[u16; 8]]) {
-    for port in 0..rows.len() {
-        put_row(chart, port, rows[port]);
+    for (port, row) in rows.iter().enumerate() {
+        put_row(chart, port, *row);
     }
 }
 

@@ -6,7 +6,7 @@
 ghost use Rattle.std.specs.Prelude.{◌≡◌, ◌<◌, ◌≤◌, length};
 
 use print::{STDIN_FILENO, front, put, put_bytes, put_whole};
-use receiver::receive::receive;
+use receiver::receive::Receiver;
 
 // What a call came to: where the bytes that are left begin, and the length of the slice that was finished, 0 for
 // none.
@@ -17,17 +17,11 @@ struct Turn {
 }
 
 // One call on the bytes from i on.
-fn take_turn(
-    held: &mut [u8; 255],
-    count: &mut u8,
-    arrived: &[u8],
-    i: usize,
-    area: &mut [u8; 255],
-) -> Turn
+fn take_turn(receiver: &mut Receiver<'_>, arrived: &[u8], i: usize, area: &mut [u8; 255]) -> Turn
     requires { i < length arrived.now }
     ensures { (i < result.next) × (result.next ≤ length arrived.now) }
 {
-    let r = receive(held, count, &arrived[i..], &mut area[..]);
+    let r = receiver.receive(&arrived[i..], area);
     Turn {
         next: i + r.taken,
         length: r.length,
@@ -44,25 +38,15 @@ fn put_found(area: &[u8; 255], length: usize) {
 }
 
 // Prints the slices of an arrival.
-fn put_slices(held: &mut [u8; 255], count: &mut u8, arrived: &[u8]) {
+fn put_slices(receiver: &mut Receiver<'_>, arrived: &[u8]) {
     let mut area = [0u8; 255];
     let mut i = 0;
+    // A `while`: each step takes as many bytes as its slice has.
     while i < arrived.len() {
-        let t = take_turn(held, count, arrived, i, &mut area);
+        let t = take_turn(receiver, arrived, i, &mut area);
         i = t.next;
         put_found(&area, t.length);
     }
-}
-
-// Where an arrival of at most `size` bytes ends that begins at `from`.
-fn end_of(from: usize, size: usize, length: usize) -> usize
-    requires { (from < length) × (0 < size) }
-    ensures { (from < result) × (result ≤ length) }
-{
-    if length - from < size {
-        return length;
-    }
-    from + size
 }
 
 // Prints the slices of a line that arrives by `size` bytes, from fresh state.
@@ -71,11 +55,12 @@ fn put_cut(line: &[u8], size: usize)
 {
     let mut held = [0u8; 255];
     let mut count = 0u8;
-    let mut from = 0;
-    while from < line.len() {
-        let end = end_of(from, size, line.len());
-        put_slices(&mut held, &mut count, &line[from..end]);
-        from = end;
+    let mut receiver = Receiver {
+        held: &mut held,
+        count: &mut count,
+    };
+    for part in line.chunks(size) {
+        put_slices(&mut receiver, part);
     }
 }
 
@@ -121,7 +106,6 @@ fn byte_at(feed: Feed, k: usize) -> u8 {
 // The 4096 bytes of a feed from byte `from` on.
 fn arrival(feed: Feed, from: usize) -> [u8; 4096]
     requires { from < 1048576 }
-    ensures { 4096 ≡ length result }
 {
     let mut bytes = io::buffer();
     for i in 0..4096 {
@@ -131,14 +115,15 @@ fn arrival(feed: Feed, from: usize) -> [u8; 4096]
 }
 
 // How many slices an arrival hands out.
-fn slices_of(held: &mut [u8; 255], count: &mut u8, arrived: &[u8]) -> usize
+fn slices_of(receiver: &mut Receiver<'_>, arrived: &[u8]) -> usize
     ensures { result ≤ length arrived.now }
 {
     let mut area = [0u8; 255];
     let mut slices = 0;
     let mut i = 0;
+    // A `while`: each step takes as many bytes as its slice has.
     while i < arrived.len() {
-        let t = take_turn(held, count, arrived, i, &mut area);
+        let t = take_turn(receiver, arrived, i, &mut area);
         i = t.next;
         if t.length != 0 {
             slices += 1;
@@ -154,7 +139,11 @@ fn put_feed(feed: Feed) {
     let mut slices = 0;
     for k in 0..256 {
         let bytes = arrival(feed, k * 4096);
-        slices += slices_of(&mut held, &mut count, &bytes);
+        let mut receiver = Receiver {
+            held: &mut held,
+            count: &mut count,
+        };
+        slices += slices_of(&mut receiver, &bytes);
     }
     put_name(feed);
     put_whole(slices as u64);
@@ -169,7 +158,8 @@ fn put_call(held: &mut [u8; 255], count: &mut u8, arrived: &[u8], room: usize)
     requires { room ≤ 300 }
 {
     let mut area = [0u8; 300];
-    let r = receive(held, count, arrived, &mut area[..room]);
+    let mut receiver = Receiver { held, count };
+    let r = receiver.receive(arrived, &mut area[..room]);
     put(b"call ");
     put_whole(r.number as u64);
     put(b" ");
@@ -177,7 +167,7 @@ fn put_call(held: &mut [u8; 255], count: &mut u8, arrived: &[u8], room: usize)
     put(b" ");
     put_whole(r.length as u64);
     put(b" ");
-    put_whole(*count as u64);
+    put_whole(*receiver.count as u64);
     put(b"\n");
 }
 
@@ -197,8 +187,8 @@ fn put_calls() {
 
 fn main() {
     let mut input = io::large_buffer();
-    let got = io::read_full(STDIN_FILENO, &mut input[..]);
-    put_cuts(front(&input[..], got));
+    let got = io::read_full(STDIN_FILENO, &mut input);
+    put_cuts(front(&input, got));
     put_feed(Feed::Noise);
     put_feed(Feed::Stx);
     put_feed(Feed::Etx);

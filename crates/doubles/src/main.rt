@@ -4,19 +4,20 @@
 #![tactic(auto)]
 
 use commands::request::Request;
-use harl::message::{Asked, read_request};
-use lines::reader::{Line, read_line};
+use harl::message::read_request;
+use lines::reader::read_line;
 use print::texts::put_step;
 use print::{STDIN_FILENO, count, front, part, put, put_bits, put_position, put_two, put_whole};
 use readings::convert::{Converted, Reading};
-use readings::reply::{ReadReply, read_converted};
+use readings::reply::read_converted;
+use refusals::refusal::Refused;
 
 // The bits of a double; of one that is no number, which no reading is, those of a quiet NaN.
 fn bits_of(x: f64) -> u64 {
     if x != x {
         return 0x7ff8000000000000;
     }
-    f64::to_bits(x)
+    x.to_bits()
 }
 
 fn put_double(x: f64) {
@@ -60,31 +61,29 @@ fn put_converted(what: Converted) {
 }
 
 // The number and the position of a refusal, and the end of the line.
-fn put_refused(number: u8, position: usize) {
-    put_two(number);
-    put_position(position);
+fn put_refused(refused: Refused) {
+    put_two(refused.refusal.number());
+    put_position(refused.position);
 }
 
 fn answer_reply(slice: &[u8], station: u8, request: Request) {
-    let read = read_converted(slice, station, request);
-    match read {
-        ReadReply::Accepted(what) => {
+    match read_converted(slice, station, request) {
+        Ok(what) => {
             put(b"00 ");
             put_converted(what);
             put(b"\n");
         }
-        ReadReply::Refused(number, position) => put_refused(number, position),
+        Err(refused) => put_refused(refused),
     }
 }
 
-// Answers the slices that the first m and n bytes are.
-fn answer_pair(request: &[u8; 256], m: usize, reply: &[u8; 256], n: usize) {
-    let asked = read_request(front(request, m));
-    match asked {
-        Asked::Accepted(station, typed) => answer_reply(front(reply, n), station, typed),
-        Asked::Refused(number, position) => {
+// Answers a request and its reply.
+fn answer_pair(request: &[u8], reply: &[u8]) {
+    match read_request(request) {
+        Ok(asked) => answer_reply(reply, asked.station, asked.request),
+        Err(refused) => {
             put(b"asked ");
-            put_refused(number, position);
+            put_refused(refused);
         }
     }
 }
@@ -97,27 +96,27 @@ fn answer_line(line: &[u8]) {
         put(b"--\n");
         return;
     }
-    let Line::Slice(m) = read_line(part(line, b' ', 0), &mut request) else {
+    let Some(m) = read_line(part(line, b' ', 0), &mut request) else {
         put(b"--\n");
         return;
     };
-    let Line::Slice(n) = read_line(part(line, b' ', 1), &mut reply) else {
+    let Some(n) = read_line(part(line, b' ', 1), &mut reply) else {
         put(b"--\n");
         return;
     };
-    answer_pair(&request, m, &reply, n);
+    answer_pair(front(&request, m), front(&reply, n));
 }
 
 // Takes bytes of input: LF ends the line that is held, and any other byte is part of it. No more than 1,026 are held: a
 // line over 1,025 bytes is no pair, whatever follows. Returns how many bytes are then held.
 fn answer_bytes(input: &[u8], held: &mut [u8; 1026], start: usize) -> usize {
     let mut n = start;
-    for i in 0..input.len() {
-        if input[i] == b'\n' {
+    for b in input {
+        if *b == b'\n' {
             answer_line(front(held, n));
             n = 0;
         } else if n < 1026 {
-            held[n] = input[i];
+            held[n] = *b;
             n += 1;
         }
     }
@@ -131,11 +130,11 @@ fn main() {
     let mut held = [0u8; 1026];
     let mut n = 0;
     for _ in 0..u64::MAX {
-        let got = io::read_full(STDIN_FILENO, &mut input[..]);
+        let got = io::read_full(STDIN_FILENO, &mut input);
         if got == 0 {
             break;
         }
-        n = answer_bytes(front(&input[..], got), &mut held, n);
+        n = answer_bytes(front(&input, got), &mut held, n);
     }
     if 0 < n {
         answer_bytes(b"\n", &mut held, n);

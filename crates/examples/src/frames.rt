@@ -5,7 +5,7 @@ use print::{
     front, put, put_bytes, put_position, put_slice, put_text, put_two, put_untouched, put_whole,
 };
 
-// What the reader answered: the number, the station and the body.
+// What the reader answered: the number, the station and the body; of a refused slice station 0 and no body.
 fn put_reading(number: u8, station: u8, body: &[u8], position: usize) {
     put(b": ");
     put_two(number);
@@ -19,11 +19,10 @@ fn put_reading(number: u8, station: u8, body: &[u8], position: usize) {
 pub fn read(slice: &[u8]) {
     put(b"frame ");
     put_slice(slice);
-    let mut number: u8 = 0;
-    let mut station: u8 = 0;
-    let mut position: usize = 0;
-    let body = read_frame(slice, &mut number, &mut station, &mut position);
-    put_reading(number, station, body, position);
+    match read_frame(slice) {
+        Ok(frame) => put_reading(0, frame.station, frame.body, 0),
+        Err(refused) => put_reading(refused.refusal.number(), 0, b"", refused.position),
+    }
 }
 
 // A frame of station 1 that is sound but for its length, 256 bytes; and the longest frame, 255 bytes.

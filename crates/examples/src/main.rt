@@ -8,34 +8,27 @@ mod numerals; // numerals.rt: numbers read and written
 mod run; // run.rt: the script run line by line
 
 use crate::run::run;
+use tables::arms::Arms;
 
-// The tables by the documents' letters: t, d, x, y, z, w, i, o, and m for the memory bits; on the numbers of outputs
-// that are on; p the START programs; s the stations.
+// p are the START programs, s the stations.
 fn main() {
-    let mut t = [[0u16; 16]; 4];
-    let mut d = [[0u16; 64]; 4];
-    let mut x = [[0i32; 100]; 4];
-    let mut y = [[0i32; 100]; 4];
-    let mut z = [[0i32; 100]; 4];
-    let mut w = [[0i32; 100]; 4];
-    let mut i = [[0u8; 32]; 4];
-    let mut o = [[0u8; 32]; 4];
-    let mut m = [[0u8; 16]; 4];
-    let mut on = [0u16; 4];
+    let mut arms = Arms {
+        timers: &mut [[0; 16]; 4],
+        registers: &mut [[0; 64]; 4],
+        x: &mut [[0; 100]; 4],
+        y: &mut [[0; 100]; 4],
+        z: &mut [[0; 100]; 4],
+        w: &mut [[0; 100]; 4],
+        inputs: &mut [[0; 32]; 4],
+        outputs: &mut [[0; 32]; 4],
+        memory: &mut [[0; 16]; 4],
+        on: &mut [0; 4],
+    };
     let mut p = [0u8; 40960];
     let mut s = [0u8; 4];
     run(
-        &mut t,
-        &mut d,
-        &mut x,
-        &mut y,
-        &mut z,
-        &mut w,
-        &mut i,
-        &mut o,
-        &mut m,
-        &mut on,
-        &mut p[..],
+        &mut arms,
+        &mut p,
         &mut s,
         b"# Check 2: no bytes, and 5 bytes.\0\
           F\0\
@@ -91,17 +84,8 @@ fn main() {
     numerals::hundredths_written();
     numerals::wholes_written();
     run(
-        &mut t,
-        &mut d,
-        &mut x,
-        &mut y,
-        &mut z,
-        &mut w,
-        &mut i,
-        &mut o,
-        &mut m,
-        &mut on,
-        &mut p[..],
+        &mut arms,
+        &mut p,
         &mut s,
         b"# Requests of each kind. One that is accepted is written too.\0\
           Q\x021 LNT 5\x03\x51\0\
@@ -241,17 +225,8 @@ fn main() {
           yu\0",
     );
     run(
-        &mut t,
-        &mut d,
-        &mut x,
-        &mut y,
-        &mut z,
-        &mut w,
-        &mut i,
-        &mut o,
-        &mut m,
-        &mut on,
-        &mut p[..],
+        &mut arms,
+        &mut p,
         &mut s,
         b"# Row 99 is the last. A refused row changes no arm's tables.\0\
           setup 1 2 3 4\0\
@@ -520,17 +495,8 @@ fn main() {
           R1 SNBD -1 0 15 16 -1 0 255 256\0",
     );
     run(
-        &mut t,
-        &mut d,
-        &mut x,
-        &mut y,
-        &mut z,
-        &mut w,
-        &mut i,
-        &mut o,
-        &mut m,
-        &mut on,
-        &mut p[..],
+        &mut arms,
+        &mut p,
         &mut s,
         b"# START programs (document 02, E3): typed steps with no data to four, texts of 1 to 8 characters. The last has 58 bytes.\0\
           Ta\0\

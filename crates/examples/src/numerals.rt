@@ -1,8 +1,9 @@
 // Numbers read from texts, and written as texts.
 use print::{front, put, put_signed, put_text, put_whole};
-use text::hundredths::{Hundredths, put_hundredths, read_hundredths};
+use text::field::At;
+use text::hundredths::{put_hundredths, read_hundredths};
 use text::put::Cursor;
-use text::whole::{Whole, put_padded, put_shortest, read_whole};
+use text::whole::{put_padded, put_shortest, read_whole};
 
 fn put_label(kind: &[u8], text: &[u8]) {
     put(kind);
@@ -12,22 +13,18 @@ fn put_label(kind: &[u8], text: &[u8]) {
 
 pub fn read_as_hundredths(text: &[u8]) {
     put_label(b"hundredths ", text);
-    let read = read_hundredths(text, 0);
-    let h = read.hundredths;
-    match h {
-        Hundredths::Value(v) => put_signed(v),
-        Hundredths::Malformed(_) => put(b"malformed"),
+    match read_hundredths(At::front(text)) {
+        Ok(field) => put_signed(field.value),
+        Err(_) => put(b"malformed"),
     }
     put(b"\n");
 }
 
 pub fn read_as_whole(text: &[u8]) {
     put_label(b"whole ", text);
-    let read = read_whole(text, 0);
-    let w = read.whole;
-    match w {
-        Whole::Value(v) => put_whole(v as u64),
-        Whole::Malformed(_) => put(b"malformed"),
+    match read_whole(At::front(text)) {
+        Ok(field) => put_whole(field.value as u64),
+        Err(_) => put(b"malformed"),
     }
     put(b"\n");
 }
@@ -43,11 +40,9 @@ fn write_hundredths(v: i32) {
 }
 
 pub fn hundredths_written() {
-    write_hundredths(5);
-    write_hundredths(-5);
-    write_hundredths(0);
-    write_hundredths(999999);
-    write_hundredths(-999999);
+    for v in [5, -5, 0, 999999, -999999] {
+        write_hundredths(v);
+    }
 }
 
 fn write_shortest(v: u16) {
@@ -74,7 +69,7 @@ fn write_whole(v: u16) {
 }
 
 pub fn wholes_written() {
-    write_whole(0);
-    write_whole(42);
-    write_whole(9999);
+    for v in [0, 42, 9999] {
+        write_whole(v);
+    }
 }

@@ -4,21 +4,16 @@ use crate::{frames, numerals};
 use examples_gateway::calls::call;
 use examples_harl::{answers, requests};
 use print::{count, part, put};
+use tables::arms::Arms;
 
 // The byte at an index; 0 where there is none.
 fn byte(s: &[u8], n: usize) -> u8 {
-    if n < s.len() {
-        return s[n];
-    }
-    0
+    s.get(n).copied().unwrap_or(0)
 }
 
 // The line from a byte on.
 fn from(line: &[u8], n: usize) -> &[u8] {
-    if line.len() < n {
-        return line;
-    }
-    &line[n..]
+    line.get(n..).unwrap_or(line)
 }
 
 // A line that needs no tables: "#" a heading, F a slice read as a frame, H a text read as hundredths, W a text read as
@@ -46,70 +41,32 @@ fn read(line: &[u8]) {
 
 // Whether a line is for the tables: setup, other setup, input, outputs, lent, bytes, memory, S, N or R.
 fn is_call(line: &[u8]) -> bool {
-    match byte(line, 0) {
-        b's' | b'o' | b'i' | b'l' | b'b' | b'm' | b'S' | b'N' | b'R' => true,
-        _ => false,
-    }
+    matches!(
+        byte(line, 0),
+        b's' | b'o' | b'i' | b'l' | b'b' | b'm' | b'S' | b'N' | b'R'
+    )
 }
 
 // Does what a line asks for, given the tables' entries before it, and returns those after it.
 fn step(
-    t: &mut [[u16; 16]; 4],
-    d: &mut [[u16; 64]; 4],
-    x: &mut [[i32; 100]; 4],
-    y: &mut [[i32; 100]; 4],
-    z: &mut [[i32; 100]; 4],
-    w: &mut [[i32; 100]; 4],
-    i: &mut [[u8; 32]; 4],
-    o: &mut [[u8; 32]; 4],
-    m: &mut [[u8; 16]; 4],
-    on: &mut [u16; 4],
+    arms: &mut Arms<'_>,
     p: &mut [u8],
     s: &mut [u8; 4],
     line: &[u8],
     before: [i32; 2244],
 ) -> [i32; 2244] {
     if is_call(line) {
-        return call(t, d, x, y, z, w, i, o, m, on, p, s, line, before);
+        return call(arms, p, s, line, before);
     }
     read(line);
     before
 }
 
 // Does what each line of a script asks for, on tables that are all zero.
-pub fn run(
-    t: &mut [[u16; 16]; 4],
-    d: &mut [[u16; 64]; 4],
-    x: &mut [[i32; 100]; 4],
-    y: &mut [[i32; 100]; 4],
-    z: &mut [[i32; 100]; 4],
-    w: &mut [[i32; 100]; 4],
-    i: &mut [[u8; 32]; 4],
-    o: &mut [[u8; 32]; 4],
-    m: &mut [[u8; 16]; 4],
-    on: &mut [u16; 4],
-    p: &mut [u8],
-    s: &mut [u8; 4],
-    script: &[u8],
-) {
+pub fn run(arms: &mut Arms<'_>, p: &mut [u8], s: &mut [u8; 4], script: &[u8]) {
     let mut before = [0; 2244];
     for k in 0..count(script, 0) {
-        let after = step(
-            t,
-            d,
-            x,
-            y,
-            z,
-            w,
-            i,
-            o,
-            m,
-            on,
-            p,
-            s,
-            part(script, 0, k),
-            before,
-        );
+        let after = step(arms, p, s, part(script, 0, k), before);
         before = after;
     }
 }

@@ -7,10 +7,11 @@ use crate::script::{Step, byte, number, put_label, rest, size, stations, step_of
 use crate::snapshot::{put_tables, put_zero, snapshot};
 use commands::request::Port;
 use gateway::serve::serve;
-use print::{put, put_two, put_whole, put_written};
-use slots::count::outputs_on;
+use print::{put, put_number, put_two, put_whole, put_written};
+use slots::count::{Count, outputs_on};
 use slots::input::input;
 use slots::setup::setup;
+use tables::arms::Arms;
 
 fn put_station(s: u8) {
     put(b" ");
@@ -19,41 +20,36 @@ fn put_station(s: u8) {
 
 fn put_stations(s: &[u8; 4]) {
     put(b", stations");
-    put_station(s[0]);
-    put_station(s[1]);
-    put_station(s[2]);
-    put_station(s[3]);
+    for station in s {
+        put_station(*station);
+    }
 }
 
 // Sets up a box in other tables, every entry of which is 7 before, with p for START programs.
 fn set_up_other(p: &mut [u8], want: [u16; 4]) {
-    let mut t = [[7u16; 16]; 4];
-    let mut d = [[7u16; 64]; 4];
-    let mut x = [[7i32; 100]; 4];
-    let mut y = [[7i32; 100]; 4];
-    let mut z = [[7i32; 100]; 4];
-    let mut w = [[7i32; 100]; 4];
-    let mut i = [[7u8; 32]; 4];
-    let mut o = [[7u8; 32]; 4];
-    let mut m = [[7u8; 16]; 4];
-    let mut on = [7u16; 4];
+    let mut arms = Arms {
+        timers: &mut [[7; 16]; 4],
+        registers: &mut [[7; 64]; 4],
+        x: &mut [[7; 100]; 4],
+        y: &mut [[7; 100]; 4],
+        z: &mut [[7; 100]; 4],
+        w: &mut [[7; 100]; 4],
+        inputs: &mut [[7; 32]; 4],
+        outputs: &mut [[7; 32]; 4],
+        memory: &mut [[7; 16]; 4],
+        on: &mut [7; 4],
+    };
     let mut s = [7u8; 4];
     let mut turn = 7;
-    put_two(setup(
-        &mut t, &mut d, &mut x, &mut y, &mut z, &mut w, &mut i, &mut o, &mut m, &mut on, p, &mut s,
-        &mut turn, want,
-    ));
+    put_number(setup(&mut arms, p, &mut s, &mut turn, want));
     put_stations(&s);
-    put_zero(
-        b", other tables",
-        &snapshot(&t, &d, &x, &y, &z, &w, &i, &o, &m, &on),
-    );
+    put_zero(b", other tables", &snapshot(&arms));
 }
 
 // Sets up a box in other memory.
 fn set_up(want: [u16; 4]) {
     let mut p = [FILL; 40960];
-    set_up_other(&mut p[..], want);
+    set_up_other(&mut p, want);
 }
 
 // Sets up a box in other memory, with a number of bytes for START programs that are filled.
@@ -84,64 +80,20 @@ fn width(step: Step) -> usize
 }
 
 // Serves the slice of a line.
-fn answer(
-    t: &mut [[u16; 16]; 4],
-    d: &mut [[u16; 64]; 4],
-    x: &mut [[i32; 100]; 4],
-    y: &mut [[i32; 100]; 4],
-    z: &mut [[i32; 100]; 4],
-    w: &mut [[i32; 100]; 4],
-    i: &mut [[u8; 32]; 4],
-    o: &mut [[u8; 32]; 4],
-    m: &mut [[u8; 16]; 4],
-    on: &mut [u16; 4],
-    p: &mut [u8],
-    s: &[u8; 4],
-    step: Step,
-    line: &[u8],
-) {
+fn answer(arms: &mut Arms<'_>, p: &mut [u8], s: &[u8; 4], step: Step, line: &[u8]) {
     let mut area = [0xaa; 64];
     let end = width(step);
     let reply = &mut area[..end];
-    let sent = serve(
-        t,
-        d,
-        x,
-        y,
-        z,
-        w,
-        i,
-        o,
-        m,
-        on,
-        p,
-        s,
-        slice_of(step, line),
-        reply,
-    );
+    let sent = serve(arms, p, s, slice_of(step, line), reply);
     put_written(sent.number, sent.length, b", no reply", reply);
 }
 
 // The same with a number of bytes for START programs that are filled.
-fn answer_lent(
-    t: &mut [[u16; 16]; 4],
-    d: &mut [[u16; 64]; 4],
-    x: &mut [[i32; 100]; 4],
-    y: &mut [[i32; 100]; 4],
-    z: &mut [[i32; 100]; 4],
-    w: &mut [[i32; 100]; 4],
-    i: &mut [[u8; 32]; 4],
-    o: &mut [[u8; 32]; 4],
-    m: &mut [[u8; 16]; 4],
-    on: &mut [u16; 4],
-    s: &[u8; 4],
-    step: Step,
-    line: &[u8],
-) {
+fn answer_lent(arms: &mut Arms<'_>, s: &[u8; 4], step: Step, line: &[u8]) {
     let mut p = [FILL; 65535];
     let end = size(line) as usize;
     let lent = &mut p[..end];
-    answer(t, d, x, y, z, w, i, o, m, on, lent, s, step, line);
+    answer(arms, lent, s, step, line);
     put_lent(lent);
 }
 
@@ -151,7 +103,7 @@ fn place(line: &[u8]) -> usize {
 }
 
 fn put_outputs(on: &[u16; 4], s: &[u8; 4], slot: u16) {
-    let told = outputs_on(on, s, slot as usize);
+    let told = Count::from(outputs_on(on, s, slot as usize));
     put_two(told.number);
     put(b", ");
     put_whole(told.count as u64);
@@ -170,82 +122,28 @@ fn make_apart(on: &[u16; 4], p: &mut [u8], s: &[u8; 4], step: Step, line: &[u8])
 }
 
 // Makes the call of a step.
-fn make(
-    t: &mut [[u16; 16]; 4],
-    d: &mut [[u16; 64]; 4],
-    x: &mut [[i32; 100]; 4],
-    y: &mut [[i32; 100]; 4],
-    z: &mut [[i32; 100]; 4],
-    w: &mut [[i32; 100]; 4],
-    i: &mut [[u8; 32]; 4],
-    o: &mut [[u8; 32]; 4],
-    m: &mut [[u8; 16]; 4],
-    on: &mut [u16; 4],
-    p: &mut [u8],
-    s: &mut [u8; 4],
-    step: Step,
-    line: &[u8],
-) {
+fn make(arms: &mut Arms<'_>, p: &mut [u8], s: &mut [u8; 4], step: Step, line: &[u8]) {
     match step {
         Step::Setup => {
             let mut turn = 7;
-            put_two(setup(
-                t,
-                d,
-                x,
-                y,
-                z,
-                w,
-                i,
-                o,
-                m,
-                on,
-                p,
-                s,
-                &mut turn,
-                stations(line, 1),
-            ));
+            put_number(setup(arms, p, s, &mut turn, stations(line, 1)));
             put_stations(s);
         }
         Step::Input => {
             let slot = number(line, 2);
             let port = number(line, 4);
-            put_two(input(
-                t,
-                d,
-                x,
-                y,
-                z,
-                w,
-                i,
-                o,
-                m,
-                on,
-                s,
-                slot as usize,
-                Port(port),
-                byte(line, 6),
-            ));
+            put_number(input(arms, s, slot as usize, Port(port), byte(line, 6)));
         }
-        Step::Narrow | Step::Serve => answer(t, d, x, y, z, w, i, o, m, on, p, s, step, line),
-        Step::ServeLent => answer_lent(t, d, x, y, z, w, i, o, m, on, s, step, line),
-        Step::Ranges => try_row(t, d, x, y, z, w, i, o, m, on, p, s, rest(line)),
-        _ => make_apart(on, p, s, step, line),
+        Step::Narrow | Step::Serve => answer(arms, p, s, step, line),
+        Step::ServeLent => answer_lent(arms, s, step, line),
+        Step::Ranges => try_row(arms, p, s, rest(line)),
+        _ => make_apart(arms.on, p, s, step, line),
     }
 }
 
 // Makes the call of a line, given the tables' entries before it, and returns those after it.
 pub fn call(
-    t: &mut [[u16; 16]; 4],
-    d: &mut [[u16; 64]; 4],
-    x: &mut [[i32; 100]; 4],
-    y: &mut [[i32; 100]; 4],
-    z: &mut [[i32; 100]; 4],
-    w: &mut [[i32; 100]; 4],
-    i: &mut [[u8; 32]; 4],
-    o: &mut [[u8; 32]; 4],
-    m: &mut [[u8; 16]; 4],
-    on: &mut [u16; 4],
+    arms: &mut Arms<'_>,
     p: &mut [u8],
     s: &mut [u8; 4],
     line: &[u8],
@@ -253,8 +151,8 @@ pub fn call(
 ) -> [i32; 2244] {
     let step = step_of(line);
     put_label(step, line);
-    make(t, d, x, y, z, w, i, o, m, on, p, s, step, line);
-    let after = snapshot(t, d, x, y, z, w, i, o, m, on);
+    make(arms, p, s, step, line);
+    let after = snapshot(arms);
     put_tables(step, &before, &after);
     after
 }

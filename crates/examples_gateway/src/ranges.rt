@@ -7,6 +7,7 @@ use frame::STX;
 use frame::writer::close_frame;
 use gateway::serve::serve;
 use print::{front, part, put, put_slice, put_two};
+use tables::arms::Arms;
 use text::put::{Cursor, put_bytes};
 
 // What is tried of a row: the name's first letter, how many data are given, the word of the number, the field of
@@ -53,7 +54,7 @@ fn append_name(area: &mut [u8; 256], to: Cursor, letter: u8, name: &[u8]) -> Cur
     ensures { result.at ≤ 200 }
 {
     let from = append(area, to, &[letter]);
-    if name.len() == 0 {
+    if name.is_empty() {
         return from;
     }
     append(area, from, &name[1..])
@@ -87,23 +88,16 @@ fn first_bytes(area: &[u8; 256], n: usize) -> &[u8] {
 }
 
 fn first_letter(row: &[u8]) -> u8 {
-    let name = part(row, b' ', 1);
-    if name.len() == 0 {
-        return 0;
-    }
-    name[0]
+    part(row, b' ', 1).first().copied().unwrap_or(0)
 }
 
 // How many data the row says.
 fn count_of(row: &[u8]) -> usize
     ensures { result ≤ 4 }
 {
-    if row.len() == 0 {
-        return 0;
-    }
-    match row[0] {
-        b'1' => 1,
-        b'4' => 4,
+    match row.first() {
+        Some(b'1') => 1,
+        Some(b'4') => 4,
         _ => 0,
     }
 }
@@ -160,27 +154,13 @@ fn put_reply(number: u8, reply: &[u8]) {
 }
 
 // Serves every trial of a row, and says what was answered.
-pub fn try_row(
-    t: &mut [[u16; 16]; 4],
-    d: &mut [[u16; 64]; 4],
-    x: &mut [[i32; 100]; 4],
-    y: &mut [[i32; 100]; 4],
-    z: &mut [[i32; 100]; 4],
-    w: &mut [[i32; 100]; 4],
-    i: &mut [[u8; 32]; 4],
-    o: &mut [[u8; 32]; 4],
-    m: &mut [[u8; 16]; 4],
-    on: &mut [u16; 4],
-    p: &mut [u8],
-    s: &[u8; 4],
-    row: &[u8],
-) {
+pub fn try_row(arms: &mut Arms<'_>, p: &mut [u8], s: &[u8; 4], row: &[u8]) {
     for n in 0..4 + 5 * count_of(row) {
         let mut area = [0u8; 256];
         let length = write_request(&mut area, row, n);
         let request = first_bytes(&area, length);
         let mut reply = [0u8; 64];
-        let sent = serve(t, d, x, y, z, w, i, o, m, on, p, s, request, &mut reply);
+        let sent = serve(arms, p, s, request, &mut reply);
         put_reply(sent.number, front(&reply, sent.length));
     }
 }

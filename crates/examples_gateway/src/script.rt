@@ -1,7 +1,7 @@
 // A line of the script as the step that it asks for.
-use names::command::is_same;
 use print::{part, put, put_slice};
-use text::whole::{Whole, read_whole};
+use text::field::At;
+use text::whole::read_whole;
 
 // What a line asks for.
 #[derive(Clone, Copy)]
@@ -32,12 +32,7 @@ pub enum Step {
 
 // Word k of a line as a number.
 pub fn number(line: &[u8], k: usize) -> u16 {
-    let read = read_whole(part(line, b' ', k), 0);
-    let w = read.whole;
-    match w {
-        Whole::Value(v) => v,
-        Whole::Malformed(_) => 0,
-    }
+    read_whole(At::front(part(line, b' ', k))).map_or(0, |field| field.value)
 }
 
 pub fn byte(line: &[u8], k: usize) -> u8 {
@@ -56,17 +51,12 @@ pub fn stations(line: &[u8], k: u8) -> [u16; 4] {
 
 // A size that word 1 of a line says: that of the START programs, one byte less, one more, or none.
 pub fn size(line: &[u8]) -> u16 {
-    let word = part(line, b' ', 1);
-    if is_same(word, b"40959") {
-        return 40959;
+    match part(line, b' ', 1) {
+        b"40959" => 40959,
+        b"40960" => 40960,
+        b"40961" => 40961,
+        _ => 0,
     }
-    if is_same(word, b"40960") {
-        return 40960;
-    }
-    if is_same(word, b"40961") {
-        return 40961;
-    }
-    0
 }
 
 // What stands behind the first "=".
@@ -76,62 +66,35 @@ pub fn told(line: &[u8]) -> &[u8] {
 
 // The line from its second byte on.
 pub fn rest(line: &[u8]) -> &[u8] {
-    if line.len() == 0 {
-        return line;
+    match line.split_first() {
+        Some((_, rest)) => rest,
+        None => line,
     }
-    &line[1..]
-}
-
-fn is_kind(line: &[u8], kind: u8) -> bool {
-    if line.len() == 0 {
-        return false;
-    }
-    line[0] == kind
-}
-
-// A line that begins with its kind.
-fn kind_of(line: &[u8]) -> Step {
-    if is_kind(line, b'N') {
-        return Step::Narrow;
-    }
-    if is_kind(line, b'R') {
-        return Step::Ranges;
-    }
-    Step::Serve
 }
 
 // A line that begins with "lent".
 fn lent(line: &[u8]) -> Step {
-    if is_same(part(line, b' ', 2), b"setup") {
-        return Step::SetupLent;
+    match part(line, b' ', 2) {
+        b"setup" => Step::SetupLent,
+        _ => Step::ServeLent,
     }
-    Step::ServeLent
 }
 
 pub fn step_of(line: &[u8]) -> Step {
-    let name = part(line, b' ', 0);
-    if is_same(name, b"setup") {
-        return Step::Setup;
+    match part(line, b' ', 0) {
+        b"setup" => Step::Setup,
+        b"other" => Step::Other,
+        b"input" => Step::Input,
+        b"outputs" => Step::Outputs,
+        b"lent" => lent(line),
+        b"bytes" => Step::Bytes,
+        b"memory" => Step::Memory,
+        _ => match line.first() {
+            Some(b'N') => Step::Narrow,
+            Some(b'R') => Step::Ranges,
+            _ => Step::Serve,
+        },
     }
-    if is_same(name, b"other") {
-        return Step::Other;
-    }
-    if is_same(name, b"input") {
-        return Step::Input;
-    }
-    if is_same(name, b"outputs") {
-        return Step::Outputs;
-    }
-    if is_same(name, b"lent") {
-        return lent(line);
-    }
-    if is_same(name, b"bytes") {
-        return Step::Bytes;
-    }
-    if is_same(name, b"memory") {
-        return Step::Memory;
-    }
-    kind_of(line)
 }
 
 // What stands before a step's answer.

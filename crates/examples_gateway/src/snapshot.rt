@@ -3,131 +3,59 @@ ghost use Rattle.std.specs.Prelude.{◌<◌};
 
 use crate::script::Step;
 use print::put;
+use tables::arms::Arms;
 
-fn from_byte(b: u8) -> i32 {
-    b as i32
-}
-
-fn from_word(w: u16) -> i32 {
-    w as i32
-}
-
-// Entry n of a table, the four arms' one after the other.
-fn timer(t: &[[u16; 16]; 4], n: usize) -> i32
-    requires { n < 64 }
-{
-    from_word(t[n / 16][n % 16])
-}
-
-fn register(d: &[[u16; 64]; 4], n: usize) -> i32
-    requires { n < 256 }
-{
-    from_word(d[n / 64][n % 64])
-}
-
-fn offset(x: &[[i32; 100]; 4], n: usize) -> i32
-    requires { n < 400 }
-{
-    x[n / 100][n % 100]
-}
-
-fn port(i: &[[u8; 32]; 4], n: usize) -> i32
-    requires { n < 128 }
-{
-    from_byte(i[n / 32][n % 32])
-}
-
-fn memory_port(m: &[[u8; 16]; 4], n: usize) -> i32
-    requires { n < 64 }
-{
-    from_byte(m[n / 16][n % 16])
-}
-
-// Entry n of all the tables, one after the other.
-fn entry(
-    t: &[[u16; 16]; 4],
-    d: &[[u16; 64]; 4],
-    x: &[[i32; 100]; 4],
-    y: &[[i32; 100]; 4],
-    z: &[[i32; 100]; 4],
-    w: &[[i32; 100]; 4],
-    i: &[[u8; 32]; 4],
-    o: &[[u8; 32]; 4],
-    m: &[[u8; 16]; 4],
-    on: &[u16; 4],
-    n: usize,
-) -> i32
+// Entry n of all the tables, one after the other, of each the four arms' one after the other.
+fn entry(arms: &Arms<'_>, n: usize) -> i32
     requires { n < 2244 }
 {
+    let (timers, registers) = (&*arms.timers, &*arms.registers);
+    let (x, y, z, w) = (&*arms.x, &*arms.y, &*arms.z, &*arms.w);
+    let (inputs, outputs) = (&*arms.inputs, &*arms.outputs);
+    let (memory, on) = (&*arms.memory, &*arms.on);
     if n < 64 {
-        return timer(t, n);
+        return timers[n / 16][n % 16] as i32;
     }
     if n < 320 {
-        return register(d, n - 64);
+        return registers[(n - 64) / 64][(n - 64) % 64] as i32;
     }
     if n < 720 {
-        return offset(x, n - 320);
+        return x[(n - 320) / 100][(n - 320) % 100];
     }
     if n < 1120 {
-        return offset(y, n - 720);
+        return y[(n - 720) / 100][(n - 720) % 100];
     }
     if n < 1520 {
-        return offset(z, n - 1120);
+        return z[(n - 1120) / 100][(n - 1120) % 100];
     }
     if n < 1920 {
-        return offset(w, n - 1520);
+        return w[(n - 1520) / 100][(n - 1520) % 100];
     }
     if n < 2048 {
-        return port(i, n - 1920);
+        return inputs[(n - 1920) / 32][(n - 1920) % 32] as i32;
     }
     if n < 2176 {
-        return port(o, n - 2048);
+        return outputs[(n - 2048) / 32][(n - 2048) % 32] as i32;
     }
     if n < 2240 {
-        return memory_port(m, n - 2176);
+        return memory[(n - 2176) / 16][(n - 2176) % 16] as i32;
     }
-    from_word(on[n - 2240])
+    on[n - 2240] as i32
 }
 
 // Every entry of the tables.
-pub fn snapshot(
-    t: &[[u16; 16]; 4],
-    d: &[[u16; 64]; 4],
-    x: &[[i32; 100]; 4],
-    y: &[[i32; 100]; 4],
-    z: &[[i32; 100]; 4],
-    w: &[[i32; 100]; 4],
-    i: &[[u8; 32]; 4],
-    o: &[[u8; 32]; 4],
-    m: &[[u8; 16]; 4],
-    on: &[u16; 4],
-) -> [i32; 2244] {
+pub fn snapshot(arms: &Arms<'_>) -> [i32; 2244] {
     let mut entries = [0; 2244];
-    let mut n = 0;
-    while n < 2244 {
-        entries[n] = entry(t, d, x, y, z, w, i, o, m, on, n);
-        n += 1;
+    for n in 0..2244 {
+        entries[n] = entry(arms, n);
     }
     entries
 }
 
-// Whether two snapshots are equal.
-fn is_same(a: &[i32; 2244], b: &[i32; 2244]) -> bool {
-    let mut n = 0;
-    while n < 2244 {
-        if a[n] != b[n] {
-            return false;
-        }
-        n += 1;
-    }
-    true
-}
-
 // Says of the tables so named whether every entry is 0.
 pub fn put_zero(name: &[u8], entries: &[i32; 2244]) {
-    let zero = [0; 2244];
     put(name);
-    if is_same(entries, &zero) {
+    if entries.iter().all(|e| *e == 0) {
         put(b" zero");
     } else {
         put(b" NOT ZERO");
@@ -135,7 +63,7 @@ pub fn put_zero(name: &[u8], entries: &[i32; 2244]) {
 }
 
 fn put_same(before: &[i32; 2244], after: &[i32; 2244]) {
-    if is_same(before, after) {
+    if before == after {
         put(b", tables unchanged");
     } else {
         put(b", tables changed");

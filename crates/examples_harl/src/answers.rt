@@ -3,8 +3,8 @@ use crate::cases::case_of;
 use crate::typed_steps::step_of;
 use crate::words::{put_asked, put_outcome};
 use commands::request::Row;
-use harl::message::{Answered, read_reply, write_reply};
-use print::{front, put, put_refusal, put_slice, put_written};
+use harl::message::{read_reply, write_reply};
+use print::{front, put, put_answer, put_refused, put_slice};
 use replies::reply::{Data, Outcome};
 
 // What a reply carries, and the letter of the request that it answers.
@@ -18,13 +18,12 @@ pub fn read(letter: u8, slice: &[u8]) {
     put(b"reply ");
     put_slice(slice);
     put_asked(b" to ", case.0, request);
-    let answered = read_reply(slice, case.0, request);
-    match answered {
-        Answered::Accepted(outcome) => {
+    match read_reply(slice, case.0, request) {
+        Ok(outcome) => {
             put_outcome(b": 00 ", outcome);
             put(b"\n");
         }
-        Answered::Refused(number, position) => put_refusal(number, position),
+        Err(refused) => put_refused(refused),
     }
 }
 
@@ -34,11 +33,11 @@ fn write(area: &mut [u8], outcome: Outcome, letter: u8) {
     let request = case.1;
     put_outcome(b"reply written ", outcome);
     put_asked(b" to ", case.0, request);
-    let sent = write_reply(area, case.0, request, outcome);
-    put_written(sent.number, sent.length, b", nothing", area);
+    let written = write_reply(area, case.0, request, outcome);
+    put_answer(written, area);
     put(b"\n");
-    if 0 < sent.length {
-        read(letter, front(area, sent.length));
+    if let Ok(length) = written {
+        read(letter, front(area, length));
     }
 }
 

@@ -2,14 +2,13 @@
 use crate::cases::case_of;
 use crate::words::put_asked;
 use commands::request::Request;
-use harl::message::{Asked, read_request, write_request};
-use print::{put, put_refusal, put_slice, put_written};
+use harl::message::{read_request, write_request};
+use print::{put, put_answer, put_refused, put_slice};
 
 // Writes a request into an area that is filled with AAh.
 fn write(area: &mut [u8], station: u8, request: Request) {
     put_asked(b"request written ", station, request);
-    let sent = write_request(area, station, request);
-    put_written(sent.number, sent.length, b", nothing", area);
+    put_answer(write_request(area, station, request), area);
     put(b"\n");
 }
 
@@ -17,15 +16,14 @@ fn write(area: &mut [u8], station: u8, request: Request) {
 pub fn read(slice: &[u8]) {
     put(b"request ");
     put_slice(slice);
-    let asked = read_request(slice);
-    match asked {
-        Asked::Accepted(station, request) => {
-            put_asked(b": 00 ", station, request);
+    match read_request(slice) {
+        Ok(asked) => {
+            put_asked(b": 00 ", asked.station, asked.request);
             put(b"\n");
             let mut area = [0xaa; 64];
-            write(&mut area, station, request);
+            write(&mut area, asked.station, asked.request);
         }
-        Asked::Refused(number, position) => put_refusal(number, position),
+        Err(refused) => put_refused(refused),
     }
 }
 

@@ -9,46 +9,39 @@
 // with buffers in hexadecimal capitals, "-" for an empty one, and numbers of up to four digits.
 #![tactic(auto)]
 
-use chooser::choose::{A, NONE, choose};
+use chooser::choose::{Buffer, choose};
 use commands::request::Port;
 use hosts::next::serve_next;
-use lines::reader::{Line, read_line};
-use print::{STDIN_FILENO, count, front, part, put, put_bytes, put_two, put_whole, put_written};
+use lines::reader::read_line;
+use print::{
+    STDIN_FILENO, count, front, part, put, put_bytes, put_number, put_two, put_whole, put_written,
+};
+use refusals::refusal::Refusal;
 use slots::count::{Count, outputs_on};
 use slots::input::input;
 use slots::setup::setup;
-use text::whole::{Whole, read_whole};
+use tables::arms::Arms;
+use text::field::At;
+use text::whole::read_whole;
 
 // Word k of a line as a number; 0 where it is none.
 fn number(line: &[u8], k: usize) -> u16 {
-    let field = read_whole(part(line, b' ', k), 0);
-    let whole = field.whole;
-    match whole {
-        Whole::Value(v) => v,
-        Whole::Malformed(_) => 0,
-    }
+    read_whole(At::front(part(line, b' ', k))).map_or(0, |field| field.value)
 }
 
 // Word k of a line as a byte; 0 where it is none.
 fn byte(line: &[u8], k: usize) -> u8 {
-    let n = number(line, k);
-    if n < 256 {
-        return n as u8;
-    }
-    0
+    u8::try_from(number(line, k)).unwrap_or(0)
 }
 
-// Writes the bytes that word k of a line spells to the front of a buffer, and returns how many.
-fn read_buffer(line: &[u8], k: usize, buffer: &mut [u8; 256]) -> usize {
-    match read_line(part(line, b' ', k), buffer) {
-        Line::Slice(n) => n,
-        Line::NoCall => 0,
+// Word k of a line as the bytes of a port's buffer, and the next word as how many of them wait.
+fn read_buffer<'a>(line: &[u8], k: u8, bytes: &'a mut [u8; 256]) -> Buffer<'a> {
+    let word = k as usize;
+    let length = read_line(part(line, b' ', word), bytes).unwrap_or(0);
+    Buffer {
+        bytes: front(bytes, length),
+        waiting: number(line, word + 1) as usize,
     }
-}
-
-// The first n bytes of a buffer.
-fn bytes_of(buffer: &[u8; 256], n: usize) -> &[u8] {
-    front(buffer, n)
 }
 
 // The first n bytes of an area; all of it where it has fewer.
@@ -59,60 +52,30 @@ fn area_of(area: &mut [u8], n: usize) -> &mut [u8] {
     &mut area[..n]
 }
 
-// The name of a port.
+// The name of a port, by its number.
 fn put_port(port: u8) {
-    if port == NONE {
-        put(b"-");
-    } else if port == A {
-        put(b"A");
-    } else {
-        put(b"B");
+    match port {
+        0 => put(b"-"),
+        1 => put(b"A"),
+        _ => put(b"B"),
     }
 }
 
 // Serves the next slice. The reply area is filled with AAh before.
 fn serve_ports(
-    timers: &mut [[u16; 16]; 4],
-    registers: &mut [[u16; 64]; 4],
-    x: &mut [[i32; 100]; 4],
-    y: &mut [[i32; 100]; 4],
-    z: &mut [[i32; 100]; 4],
-    w: &mut [[i32; 100]; 4],
-    inputs: &mut [[u8; 32]; 4],
-    outputs: &mut [[u8; 32]; 4],
-    memory: &mut [[u8; 16]; 4],
-    on: &mut [u16; 4],
-    programs: &mut [u8; 40960],
+    arms: &mut Arms<'_>,
+    programs: &mut [u8],
     stations: &[u8; 4],
     turn: &mut u8,
     line: &[u8],
 ) {
     let mut a = [0u8; 256];
     let mut b = [0u8; 256];
-    let length_a = read_buffer(line, 1, &mut a);
-    let length_b = read_buffer(line, 3, &mut b);
+    let first = read_buffer(line, 1, &mut a);
+    let second = read_buffer(line, 3, &mut b);
     let mut area = [0xaa; 99];
-    let reply = area_of(&mut area[..], number(line, 5) as usize);
-    let next = serve_next(
-        timers,
-        registers,
-        x,
-        y,
-        z,
-        w,
-        inputs,
-        outputs,
-        memory,
-        on,
-        &mut programs[..],
-        stations,
-        turn,
-        bytes_of(&a, length_a),
-        number(line, 2) as usize,
-        bytes_of(&b, length_b),
-        number(line, 4) as usize,
-        reply,
-    );
+    let reply = area_of(&mut area, number(line, 5) as usize);
+    let next = serve_next(arms, programs, stations, turn, first, second, reply);
     let sent = next.sent;
     put_port(next.port);
     put_written(sent.number, sent.length, b", no reply", reply);
@@ -124,25 +87,19 @@ fn serve_ports(
 fn choose_port(turn: &mut u8, line: &[u8]) {
     let mut a = [0u8; 256];
     let mut b = [0u8; 256];
-    let length_a = read_buffer(line, 1, &mut a);
-    let length_b = read_buffer(line, 3, &mut b);
-    let mut refused = 0;
-    let mut port = 0;
-    let slice = choose(
-        turn,
-        bytes_of(&a, length_a),
-        number(line, 2) as usize,
-        bytes_of(&b, length_b),
-        number(line, 4) as usize,
-        &mut refused,
-        &mut port,
-    );
-    put_port(port);
-    put(b": ");
-    put_two(refused);
-    if 0 < slice.len() {
-        put(b" ");
-        put_bytes(slice);
+    let first = read_buffer(line, 1, &mut a);
+    let second = read_buffer(line, 3, &mut b);
+    match choose(turn, first, second) {
+        Ok(choice) => {
+            put_port(choice.port.number());
+            put(b": 00 ");
+            put_bytes(choice.part);
+        }
+        Err(refusal) => {
+            put_port(0);
+            put(b": ");
+            put_two(refusal.number());
+        }
     }
 }
 
@@ -158,14 +115,6 @@ fn put_count(told: Count) {
     put_whole(told.count as u64);
 }
 
-// The byte at an index; 0 where there is none.
-fn letter(line: &[u8], n: usize) -> u8 {
-    if n < line.len() {
-        return line[n];
-    }
-    0
-}
-
 // The stations that a line names.
 fn stations_of(line: &[u8]) -> [u16; 4] {
     [
@@ -176,73 +125,37 @@ fn stations_of(line: &[u8]) -> [u16; 4] {
     ]
 }
 
-fn put_setup(number: u8) {
+fn put_setup(answer: Result<(), Refusal>) {
     put(b"setup: ");
-    put_two(number);
+    put_number(answer);
 }
 
-fn put_input(number: u8) {
+fn put_input(answer: Result<(), Refusal>) {
     put(b"input: ");
-    put_two(number);
+    put_number(answer);
 }
 
 // Does what a line asks for. The first words differ in their third letter.
 fn answer_line(
-    timers: &mut [[u16; 16]; 4],
-    registers: &mut [[u16; 64]; 4],
-    x: &mut [[i32; 100]; 4],
-    y: &mut [[i32; 100]; 4],
-    z: &mut [[i32; 100]; 4],
-    w: &mut [[i32; 100]; 4],
-    inputs: &mut [[u8; 32]; 4],
-    outputs: &mut [[u8; 32]; 4],
-    memory: &mut [[u8; 16]; 4],
-    on: &mut [u16; 4],
-    programs: &mut [u8; 40960],
+    arms: &mut Arms<'_>,
+    programs: &mut [u8],
     stations: &mut [u8; 4],
     turn: &mut u8,
     line: &[u8],
 ) {
-    match letter(line, 2) {
-        b'x' => serve_ports(
-            timers, registers, x, y, z, w, inputs, outputs, memory, on, programs, stations, turn,
-            line,
-        ),
-        b'o' => choose_port(turn, line),
-        b'r' => set_turn(turn, line),
-        b't' => put_setup(setup(
-            timers,
-            registers,
-            x,
-            y,
-            z,
-            w,
-            inputs,
-            outputs,
-            memory,
-            on,
-            &mut programs[..],
-            stations,
-            turn,
-            stations_of(line),
-        )),
-        b'p' => put_input(input(
-            timers,
-            registers,
-            x,
-            y,
-            z,
-            w,
-            inputs,
-            outputs,
-            memory,
-            on,
+    match line.get(2) {
+        Some(b'x') => serve_ports(arms, programs, stations, turn, line),
+        Some(b'o') => choose_port(turn, line),
+        Some(b'r') => set_turn(turn, line),
+        Some(b't') => put_setup(setup(arms, programs, stations, turn, stations_of(line))),
+        Some(b'p') => put_input(input(
+            arms,
             stations,
             number(line, 1) as usize,
             Port(number(line, 2)),
             byte(line, 3),
         )),
-        _ => put_count(outputs_on(on, stations, number(line, 1) as usize)),
+        _ => put_count(outputs_on(arms.on, stations, number(line, 1) as usize).into()),
     }
 }
 
@@ -255,58 +168,29 @@ fn put_turn(turn: u8) {
 
 // Answers every line of the input, each of which LF ends.
 fn answer_lines(
-    timers: &mut [[u16; 16]; 4],
-    registers: &mut [[u16; 64]; 4],
-    x: &mut [[i32; 100]; 4],
-    y: &mut [[i32; 100]; 4],
-    z: &mut [[i32; 100]; 4],
-    w: &mut [[i32; 100]; 4],
-    inputs: &mut [[u8; 32]; 4],
-    outputs: &mut [[u8; 32]; 4],
-    memory: &mut [[u8; 16]; 4],
-    on: &mut [u16; 4],
-    programs: &mut [u8; 40960],
+    arms: &mut Arms<'_>,
+    programs: &mut [u8],
     stations: &mut [u8; 4],
     turn: &mut u8,
     lines: &[u8],
 ) {
     for k in 0..count(lines, b'\n') {
-        answer_line(
-            timers,
-            registers,
-            x,
-            y,
-            z,
-            w,
-            inputs,
-            outputs,
-            memory,
-            on,
-            programs,
-            stations,
-            turn,
-            part(lines, b'\n', k),
-        );
+        answer_line(arms, programs, stations, turn, part(lines, b'\n', k));
         put_turn(*turn);
     }
-}
-
-// One of X, Y, Z and W, zero in every row.
-fn rows() -> [[i32; 100]; 4] {
-    [[0; 100]; 4]
 }
 
 // Answers the lines on a box of which no slot is fitted yet. The input has at most 131,072 bytes.
 fn main() {
     let mut buffer = [0u8; 131072];
-    let got = io::read_full(STDIN_FILENO, &mut buffer[..]);
-    let lines = front(&buffer[..], got);
+    let got = io::read_full(STDIN_FILENO, &mut buffer);
+    let lines = front(&buffer, got);
     let mut timers = [[0u16; 16]; 4];
     let mut registers = [[0u16; 64]; 4];
-    let mut x = rows();
-    let mut y = rows();
-    let mut z = rows();
-    let mut w = rows();
+    let mut x = [[0i32; 100]; 4];
+    let mut y = [[0i32; 100]; 4];
+    let mut z = [[0i32; 100]; 4];
+    let mut w = [[0i32; 100]; 4];
     let mut inputs = [[0u8; 32]; 4];
     let mut outputs = [[0u8; 32]; 4];
     let mut memory = [[0u8; 16]; 4];
@@ -314,20 +198,17 @@ fn main() {
     let mut programs = [0u8; 40960];
     let mut stations = [0u8; 4];
     let mut turn = 0;
-    answer_lines(
-        &mut timers,
-        &mut registers,
-        &mut x,
-        &mut y,
-        &mut z,
-        &mut w,
-        &mut inputs,
-        &mut outputs,
-        &mut memory,
-        &mut on,
-        &mut programs,
-        &mut stations,
-        &mut turn,
-        lines,
-    );
+    let mut arms = Arms {
+        timers: &mut timers,
+        registers: &mut registers,
+        x: &mut x,
+        y: &mut y,
+        z: &mut z,
+        w: &mut w,
+        inputs: &mut inputs,
+        outputs: &mut outputs,
+        memory: &mut memory,
+        on: &mut on,
+    };
+    answer_lines(&mut arms, &mut programs, &mut stations, &mut turn, lines);
 }

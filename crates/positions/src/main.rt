@@ -3,71 +3,33 @@
 #![tactic(auto)]
 
 use gateway::serve::serve;
-use lines::reader::{Line, read_line};
+use lines::reader::read_line;
 use lines::writer::put_answer;
 use print::{STDIN_FILENO, front, put, put_position};
 use slots::setup::setup;
+use tables::arms::Arms;
 
 // Serves a line, and prints its answer as `cell` does, with the position before its LF. A line that is no call has
 // none.
-fn answer_line(
-    timers: &mut [[u16; 16]; 4],
-    registers: &mut [[u16; 64]; 4],
-    x: &mut [[i32; 100]; 4],
-    y: &mut [[i32; 100]; 4],
-    z: &mut [[i32; 100]; 4],
-    w: &mut [[i32; 100]; 4],
-    inputs: &mut [[u8; 32]; 4],
-    outputs: &mut [[u8; 32]; 4],
-    memory: &mut [[u8; 16]; 4],
-    on: &mut [u16; 4],
-    programs: &mut [u8],
-    stations: &[u8; 4],
-    line: &[u8],
-) {
+fn answer_line(arms: &mut Arms<'_>, programs: &mut [u8], stations: &[u8; 4], line: &[u8]) {
     let mut slice = [0u8; 256];
-    let Line::Slice(n) = read_line(line, &mut slice) else {
+    let Some(n) = read_line(line, &mut slice) else {
         put(b"--\n");
         return;
     };
     let mut reply = [0u8; 64];
-    let sent = serve(
-        timers,
-        registers,
-        x,
-        y,
-        z,
-        w,
-        inputs,
-        outputs,
-        memory,
-        on,
-        programs,
-        stations,
-        front(&slice[..], n),
-        &mut reply[..],
-    );
-    let position = sent.position;
+    let sent = serve(arms, programs, stations, front(&slice, n), &mut reply);
     let length = sent.length;
     let mut out = [0u8; 132];
-    let end = put_answer(&mut out[..], 0, sent.number, &reply[..length]);
-    put(front(&out[..], end - 1));
-    put_position(position);
+    let end = put_answer(&mut out, 0, sent.number, &reply[..length]);
+    put(front(&out, end - 1));
+    put_position(sent.position);
 }
 
 // Takes bytes of input: LF ends the line that is held, and any other byte is part of it. No more than 513 are held:
 // a line over 512 digits is no call, whatever follows. Returns how many bytes are then held.
 fn answer_bytes(
-    timers: &mut [[u16; 16]; 4],
-    registers: &mut [[u16; 64]; 4],
-    x: &mut [[i32; 100]; 4],
-    y: &mut [[i32; 100]; 4],
-    z: &mut [[i32; 100]; 4],
-    w: &mut [[i32; 100]; 4],
-    inputs: &mut [[u8; 32]; 4],
-    outputs: &mut [[u8; 32]; 4],
-    memory: &mut [[u8; 16]; 4],
-    on: &mut [u16; 4],
+    arms: &mut Arms<'_>,
     programs: &mut [u8],
     stations: &[u8; 4],
     input: &[u8],
@@ -75,26 +37,12 @@ fn answer_bytes(
     start: usize,
 ) -> usize {
     let mut n = start;
-    for i in 0..input.len() {
-        if input[i] == b'\n' {
-            answer_line(
-                timers,
-                registers,
-                x,
-                y,
-                z,
-                w,
-                inputs,
-                outputs,
-                memory,
-                on,
-                programs,
-                stations,
-                front(held, n),
-            );
+    for b in input {
+        if *b == b'\n' {
+            answer_line(arms, programs, stations, front(held, n));
             n = 0;
         } else if n < 513 {
-            held[n] = input[i];
+            held[n] = *b;
             n += 1;
         }
     }
@@ -117,65 +65,46 @@ fn main() {
     let mut programs = [0u8; 40960];
     let mut stations = [0u8; 4];
     let mut turn = 0;
-    setup(
-        &mut timers,
-        &mut registers,
-        &mut x,
-        &mut y,
-        &mut z,
-        &mut w,
-        &mut inputs,
-        &mut outputs,
-        &mut memory,
-        &mut on,
-        &mut programs[..],
+    let mut arms = Arms {
+        timers: &mut timers,
+        registers: &mut registers,
+        x: &mut x,
+        y: &mut y,
+        z: &mut z,
+        w: &mut w,
+        inputs: &mut inputs,
+        outputs: &mut outputs,
+        memory: &mut memory,
+        on: &mut on,
+    };
+    let set_up = setup(
+        &mut arms,
+        &mut programs,
         &mut stations,
         &mut turn,
         [1, 2, 3, 4],
     );
+    if set_up.is_err() {
+        return;
+    }
     let mut input = io::large_buffer();
     let mut held = [0u8; 513];
     let mut n = 0;
     for _ in 0..u64::MAX {
-        let got = io::read_full(STDIN_FILENO, &mut input[..]);
+        let got = io::read_full(STDIN_FILENO, &mut input);
         if got == 0 {
             break;
         }
         n = answer_bytes(
-            &mut timers,
-            &mut registers,
-            &mut x,
-            &mut y,
-            &mut z,
-            &mut w,
-            &mut inputs,
-            &mut outputs,
-            &mut memory,
-            &mut on,
-            &mut programs[..],
+            &mut arms,
+            &mut programs,
             &stations,
-            front(&input[..], got),
+            front(&input, got),
             &mut held,
             n,
         );
     }
     if 0 < n {
-        answer_bytes(
-            &mut timers,
-            &mut registers,
-            &mut x,
-            &mut y,
-            &mut z,
-            &mut w,
-            &mut inputs,
-            &mut outputs,
-            &mut memory,
-            &mut on,
-            &mut programs[..],
-            &stations,
-            b"\n",
-            &mut held,
-            n,
-        );
+        answer_bytes(&mut arms, &mut programs, &stations, b"\n", &mut held, n);
     }
 }

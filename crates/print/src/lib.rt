@@ -1,11 +1,10 @@
 // What the example programs write on standard output: labels, texts, numbers and bytes.
 #![tactic(auto)]
 
-ghost use Rattle.std.specs.Prelude.{◌<◌, ◌≤◌, length};
+ghost use Rattle.std.specs.Prelude.{◌<◌};
 
-use text::hundredths::unsigned_abs;
+use refusals::refusal::{Refusal, Refused};
 use text::put::Cursor;
-use text::scan::find;
 use text::whole::put_two_digits;
 
 pub mod texts; // texts.rt: typed texts as characters
@@ -40,7 +39,7 @@ pub fn put_signed(v: i32) {
     if v < 0 {
         put(b"-");
     }
-    put_whole(unsigned_abs(v) as u64);
+    put_whole(v.unsigned_abs() as u64);
 }
 
 fn hexadecimal(d: u8) -> u8
@@ -54,29 +53,10 @@ fn put_hexadecimal(b: u8) {
     put(&digits);
 }
 
-fn lowest(n: u64) -> u8 {
-    (n % 256) as u8
-}
-
-// The bytes of a number, the lowest first.
-pub fn bytes_of(n: u64) -> [u8; 8] {
-    [
-        lowest(n),
-        lowest(n / 0x100),
-        lowest(n / 0x10000),
-        lowest(n / 0x1000000),
-        lowest(n / 0x100000000),
-        lowest(n / 0x10000000000),
-        lowest(n / 0x1000000000000),
-        lowest(n / 0x100000000000000),
-    ]
-}
-
 // A number by its sixteen hexadecimal digits.
 pub fn put_bits(n: u64) {
-    let bytes = bytes_of(n);
-    for i in 0..8 {
-        put_hexadecimal(bytes[7 - i]);
+    for b in n.to_be_bytes() {
+        put_hexadecimal(b);
     }
 }
 
@@ -93,25 +73,21 @@ fn put_character(b: u8) {
 
 // The bytes of a slice as text; of none, that there are none.
 pub fn put_slice(s: &[u8]) {
-    if s.len() == 0 {
+    if s.is_empty() {
         put(b"no bytes");
     }
-    let mut i = 0;
-    while i < s.len() {
-        put_character(s[i]);
-        i += 1;
+    for b in s {
+        put_character(*b);
     }
 }
 
 // Each byte in hexadecimal, with a space between two.
 pub fn put_bytes(s: &[u8]) {
-    let mut i = 0;
-    while i < s.len() {
+    for (i, b) in s.iter().enumerate() {
         if 0 < i {
             put(b" ");
         }
-        put_hexadecimal(s[i]);
-        i += 1;
+        put_hexadecimal(*b);
     }
 }
 
@@ -125,14 +101,7 @@ pub fn front(s: &[u8], n: usize) -> &[u8] {
 
 // How many bytes at the end of an area are AAh.
 fn untouched(area: &[u8]) -> usize {
-    let mut n = 0;
-    while n < area.len() {
-        if area[area.len() - 1 - n] != 0xaa {
-            return n;
-        }
-        n += 1;
-    }
-    n
+    area.iter().rev().take_while(|b| **b == 0xaa).count()
 }
 
 // How many bytes at the end of an area are still AAh, with which it was filled.
@@ -142,8 +111,7 @@ pub fn put_untouched(area: &[u8]) {
     put(b" untouched");
 }
 
-// What a writer answered: its number, the bytes that it wrote or what is said of none, and what it left of the
-// area.
+// What a call answered: its number, the bytes that it wrote or what is said of none, and what it left of the area.
 pub fn put_written(number: u8, length: usize, none: &[u8], area: &[u8]) {
     put(b": ");
     put_two(number);
@@ -156,6 +124,14 @@ pub fn put_written(number: u8, length: usize, none: &[u8], area: &[u8]) {
     put_untouched(area);
 }
 
+// What a writer answered: the length of the frame that it wrote, or the refusal.
+pub fn put_answer(written: Result<usize, Refusal>, area: &[u8]) {
+    match written {
+        Ok(length) => put_written(0, length, b", nothing", area),
+        Err(refusal) => put_written(refusal.number(), 0, b", nothing", area),
+    }
+}
+
 // The position in a slice, and the end of the line.
 pub fn put_position(position: usize) {
     put(b" @");
@@ -163,46 +139,27 @@ pub fn put_position(position: usize) {
     put(b"\n");
 }
 
+// The number of what a call came to, with two digits.
+pub fn put_number(answer: Result<(), Refusal>) {
+    match answer {
+        Ok(()) => put_two(0),
+        Err(refusal) => put_two(refusal.number()),
+    }
+}
+
 // The rest of a line about a slice that was refused: the number, with two digits, and the position.
-pub fn put_refusal(number: u8, position: usize) {
+pub fn put_refused(refused: Refused) {
     put(b": ");
-    put_two(number);
-    put_position(position);
+    put_two(refused.refusal.number());
+    put_position(refused.position);
 }
 
 // How many times a byte stands in s.
 pub fn count(s: &[u8], byte: u8) -> usize {
-    let mut n: usize = 0;
-    let mut i = 0;
-    while i < s.len() {
-        if s[i] == byte {
-            n += 1;
-        }
-        i += 1;
-    }
-    n
+    s.iter().filter(|b| **b == byte).count()
 }
 
-// Where part k of s starts, the parts having one `mark` between them; s's length where there is none.
-fn part_start(s: &[u8], mark: u8, k: usize) -> usize
-    ensures { result ≤ length s.now }
-{
-    let mut from = 0;
-    let mut j = 0;
-    while j < k {
-        let end = find(s, from, mark);
-        if end == s.len() {
-            return end;
-        }
-        from = end + 1;
-        j += 1;
-    }
-    from
-}
-
-// Part k of s; an empty part where there is none.
+// Part k of s, the parts having one `mark` between them; an empty part where there is none.
 pub fn part(s: &[u8], mark: u8, k: usize) -> &[u8] {
-    let from = part_start(s, mark, k);
-    let end = find(s, from, mark);
-    &s[from..end]
+    s.split(|b| *b == mark).nth(k).unwrap_or(&[])
 }

@@ -19,7 +19,7 @@ line_some n reply p = omega (arith, p.next, answer_length n reply)
 
 pub put_answer-end-requires : goal.put_answer-end-requires
 put_answer-end-requires c =
-    line_fits _ _ _ (search rules) (served_fits c.serve-sent.ensures)
+    line_fits _ _ _ (search rules) (served_fits c.serve-sent.ensures.served)
 
 pub overflow_sub-end : goal.overflow_sub-end
 overflow_sub-end c =

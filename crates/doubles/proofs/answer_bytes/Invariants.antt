@@ -1,9 +1,0 @@
--- The measure: the bytes of the input that are left.
-use Prim.Native.Nat.{◌≤◌, ◌-◌}
-use Rattle.doubles.proofs.answer_bytes.Given as goal
-
-abbrev pub invariant-loop-i : goal.invariant-loop-i
-invariant-loop-i l = l.i ≤ l.i-end
-
-abbrev pub decreases-loop-i : goal.decreases-loop-i
-decreases-loop-i l = l.i-end - l.i

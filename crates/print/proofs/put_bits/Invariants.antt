@@ -1,9 +1,0 @@
--- The measure: the bytes that are left.
-use Prim.Native.Nat.{◌≤◌, ◌-◌}
-use Rattle.print.proofs.put_bits.Given as goal
-
-abbrev pub invariant-loop-i : goal.invariant-loop-i
-invariant-loop-i l = l.i ≤ 8
-
-abbrev pub decreases-loop-i : goal.decreases-loop-i
-decreases-loop-i l = 8 - l.i
