@@ -1,12 +1,10 @@
--- Laws of one pass over a text: its LRC, whether some byte passes a test, and which byte is the first that does.
+-- Laws of one pass over a text: its LRC, and whether some byte passes a test.
 use Prim.Native.Nat.{ℕ, zero, suc, ◌+◌, ◌≤◌, ◌<◌}
 use mathlib.Core.Path.{◌≡◌, refl}
 use mathlib.Core.Bool.{Bool, true, false, cond, ◌||◌}
 use mathlib.Core.List.{List, [], ◌∷◌}
 use native.Mathlib.Omega.{arith}
 use borrow.Author.Tests.{lt-ltb}
-use Rattle.std.proofs.lemmas.Grind.{common_steps}
-use Rattle.std.specs.Prelude.{position, unwrap_or}
 use lib.Bits.{bit_xor}
 use lib.Dec.{ltb, leb-suc-suc}
 use lib.ListN.{length, get_or, drop}
@@ -62,10 +60,3 @@ flag_done false = refl
 
 -- for `lrc_and_stray`
 pub ruleset passes = (xor_step, xor_done, some_step, some_done, flag_step, flag_done)
-
--- ---- the index that a search finds
-
-pub position_until : (test : ℕ → Bool) (s : List ℕ) → unwrap_or (position test s) (length s) ≡ until test s
-unfolding until
-position_until test [] = refl
-position_until test (b ∷ s) = grind (arith, common_steps, position_until test s)

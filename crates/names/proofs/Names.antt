@@ -1,14 +1,16 @@
 -- Laws of the names: what a text with the name of a command is, and where a name at the front of a text ends.
 use Rattle.std.specs.Prelude.{Option, None, Some}
+use Rattle.std.proofs.Common.{rules, tests}
 use Prim.Native.Nat.{ℕ, zero, suc, ◌≤◌, ◌<◌}
 use mathlib.Core.Path.{◌≡◌, refl, sym, ap, ap₂, ◌∙◌}
+use Rattle.std.proofs.Common.{◌≢◌}
 use mathlib.Core.Bool.{Bool, true, false, cond, and-eq-true_iff}
 use mathlib.Core.List.{List, [], ◌∷◌, ◌++◌}
 use native.Mathlib.Omega.{arith}
 use borrow.Author.Tests.{ltb-true, ltb-false, eqb-true}
 use lib.Arith.{lt_of_le-ne}
 use lib.Dec.{eqb, ltb}
-use lib.ListN.{length, take, drop, take-append-drop}
+use lib.ListN.{length, get_or, take, drop, take-append-drop}
 use lib.Seq.{length-take-le}
 use Rattle.text.specs.Scan.{until, before, empty_or}
 use Rattle.text.proofs.Laws.{Skips, skips_all}
@@ -163,3 +165,50 @@ module _ (s : List ℕ) where
       go (Some k) n p q = sym q ∙ rw (found k (command_is p)) p
       go None (Some k) p q = sym q ∙ rw (name_ends k q) p
       go None None p q = refl
+
+-- ---- a name by its letters, for the tests that a match on names makes
+
+pub short : (s : List ℕ) → length s < 3 → command_of s ≡ None
+unfolding command_of among same name_of
+short [] h = refl
+short (a ∷ []) h = search (rules, tests)
+short (a ∷ (b ∷ [])) h = search (rules, tests)
+short (a ∷ (b ∷ (c ∷ s))) h = absurd (omega arith)
+
+pub long : (s : List ℕ) → 5 ≤ length s → command_of s ≡ None
+unfolding command_of among same name_of
+long [] h = absurd (omega arith)
+long (a ∷ []) h = absurd (omega arith)
+long (a ∷ (b ∷ [])) h = absurd (omega arith)
+long (a ∷ (b ∷ (c ∷ []))) h = absurd (omega arith)
+long (a ∷ (b ∷ (c ∷ (d ∷ [])))) h = absurd (omega arith)
+long (a ∷ (b ∷ (c ∷ (d ∷ (e ∷ s))))) h = search (rules, tests)
+
+pub three : (s : List ℕ) → 3 ≤ length s → length s < 4 → s ≡ get_or s 0 0 ∷ (get_or s 1 0 ∷ (get_or s 2 0 ∷ []))
+three [] h k = absurd (omega arith)
+three (a ∷ []) h k = absurd (omega arith)
+three (a ∷ (b ∷ [])) h k = absurd (omega arith)
+three (a ∷ (b ∷ (c ∷ []))) h k = refl
+three (a ∷ (b ∷ (c ∷ (d ∷ s)))) h k = absurd (omega arith)
+
+pub four : (s : List ℕ) → 4 ≤ length s → length s < 5 → s ≡ get_or s 0 0 ∷ (get_or s 1 0 ∷ (get_or s 2 0 ∷ (get_or s 3 0 ∷ [])))
+four [] h k = absurd (omega arith)
+four (a ∷ []) h k = absurd (omega arith)
+four (a ∷ (b ∷ [])) h k = absurd (omega arith)
+four (a ∷ (b ∷ (c ∷ []))) h k = absurd (omega arith)
+four (a ∷ (b ∷ (c ∷ (d ∷ [])))) h k = refl
+four (a ∷ (b ∷ (c ∷ (d ∷ (e ∷ s))))) h k = absurd (omega arith)
+
+module _ (s : List ℕ) (h : 4 ≤ length s) (k : length s < 5) (o : get_or s 2 0 ≢ 79) (b : get_or s 2 0 ≢ 66) where
+  -- the third letter is none of I, O and B
+  pub no_load : get_or s 2 0 ≢ 73 → command_of s ≡ None
+  unfolding command_of among same name_of
+  no_load i = rw (four s h k) (search (rules, tests))
+
+  -- the first letter is S, and the third is neither O nor B
+  pub no_store : get_or s 0 0 ≡ 83 → command_of s ≡ None
+  unfolding command_of among same name_of
+  no_store e = rw (four s h k, e) (search (rules, tests))
+
+-- for `command_of`
+pub ruleset letters = (three, four, short, long, no_load, no_store)

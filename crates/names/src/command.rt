@@ -3,7 +3,7 @@
 ghost use Rattle.std.specs.Prelude.{◌≡◌, ◌≤◌, ◌+◌, length, IfSome, unwrap_or};
 ghost use Rattle.text.specs.Put.{Put};
 ghost use Rattle.text.specs.Read.{field_with};
-ghost use Rattle.names.specs.Command.{same, name_of, command_of, name_end};
+ghost use Rattle.names.specs.Command.{name_of, command_of, name_end};
 
 use text::field::{At, Field};
 use text::put::{Cursor, put_bytes};
@@ -81,74 +81,32 @@ pub fn name_of(command: Command) -> &'static [u8]
     }
 }
 
-// Whether a name is a given one. Compared as arrays, whose length is known: `==` of slices calls a function for names of
-// four letters, and read_name takes a third longer.
-fn is<const N: usize>(name: &[u8], word: &[u8; N]) -> bool
-    ensures { result ≡ same name.now word.now }
-{
-    name.as_array() == Some(word)
-}
-
 // The command that a name is.
-#[tactic(auto, unfolding(crate::specs::Command::command_of, crate::specs::Command::among, crate::specs::Command::name_of))]
+#[tactic(auto, using(crate::proofs::Names::letters), unfolding(crate::specs::Command::command_of, crate::specs::Command::among, crate::specs::Command::same, crate::specs::Command::name_of))]
 fn command_of(name: &[u8]) -> Option<Command>
     ensures { result ≡ command_of name.now }
 {
-    if is(name, b"LNT") {
-        return Some(Command::Lnt);
+    match name {
+        b"LNT" => Some(Command::Lnt),
+        b"SNT" => Some(Command::Snt),
+        b"LND" => Some(Command::Lnd),
+        b"SND" => Some(Command::Snd),
+        b"LNL" => Some(Command::Lnl),
+        b"SNL" => Some(Command::Snl),
+        b"LNIB" => Some(Command::Lnib),
+        b"LNOB" => Some(Command::Lnob),
+        b"SNOB" => Some(Command::Snob),
+        b"LNID" => Some(Command::Lnid),
+        b"LNOD" => Some(Command::Lnod),
+        b"SNOD" => Some(Command::Snod),
+        b"LNBB" => Some(Command::Lnbb),
+        b"SNBB" => Some(Command::Snbb),
+        b"LNBD" => Some(Command::Lnbd),
+        b"SNBD" => Some(Command::Snbd),
+        b"LNA" => Some(Command::Lna),
+        b"SNA" => Some(Command::Sna),
+        _ => None,
     }
-    if is(name, b"SNT") {
-        return Some(Command::Snt);
-    }
-    if is(name, b"LND") {
-        return Some(Command::Lnd);
-    }
-    if is(name, b"SND") {
-        return Some(Command::Snd);
-    }
-    if is(name, b"LNL") {
-        return Some(Command::Lnl);
-    }
-    if is(name, b"SNL") {
-        return Some(Command::Snl);
-    }
-    if is(name, b"LNIB") {
-        return Some(Command::Lnib);
-    }
-    if is(name, b"LNOB") {
-        return Some(Command::Lnob);
-    }
-    if is(name, b"SNOB") {
-        return Some(Command::Snob);
-    }
-    if is(name, b"LNID") {
-        return Some(Command::Lnid);
-    }
-    if is(name, b"LNOD") {
-        return Some(Command::Lnod);
-    }
-    if is(name, b"SNOD") {
-        return Some(Command::Snod);
-    }
-    if is(name, b"LNBB") {
-        return Some(Command::Lnbb);
-    }
-    if is(name, b"SNBB") {
-        return Some(Command::Snbb);
-    }
-    if is(name, b"LNBD") {
-        return Some(Command::Lnbd);
-    }
-    if is(name, b"SNBD") {
-        return Some(Command::Snbd);
-    }
-    if is(name, b"LNA") {
-        return Some(Command::Lna);
-    }
-    if is(name, b"SNA") {
-        return Some(Command::Sna);
-    }
-    None
 }
 
 // Where a name of three or four letters ends, at SP or at the end of s.

@@ -58,39 +58,23 @@ fn text_at(programs: &[u8], at: usize) -> Text
     Text(n)
 }
 
-// The step of five texts: its data end before the first that is 0.
+// The step that these five texts are: its data end before the first that is 0.
 #[tactic(auto, unfolding(crate::specs::Memory::ended_of, steps::specs::Step::up_to))]
-fn ended(command: Text, first: Text, second: Text, third: Text, fourth: Text) -> Step
-    ensures { result ≡ ended_of command.0 first.0 second.0 third.0 fourth.0 }
+fn ended(texts: Step) -> Step
+    ensures { result ≡ ended_of texts.command.0 texts.first.0 texts.second.0 texts.third.0 texts.fourth.0 }
 {
     let none = Text(0);
-    let bare = Step {
-        command,
-        first: none,
-        second: none,
-        third: none,
-        fourth: none,
-    };
-    if first.0 == 0 {
-        return bare;
+    let mut step = texts;
+    if step.first.0 == 0 {
+        step.second = none;
     }
-    if second.0 == 0 {
-        return Step { first, ..bare };
+    if step.second.0 == 0 {
+        step.third = none;
     }
-    if third.0 == 0 {
-        return Step {
-            first,
-            second,
-            ..bare
-        };
+    if step.third.0 == 0 {
+        step.fourth = none;
     }
-    Step {
-        command,
-        first,
-        second,
-        third,
-        fourth,
-    }
+    step
 }
 
 impl Programs<'_> {
@@ -121,11 +105,13 @@ impl Programs<'_> {
         if command.0 == 0 {
             return None;
         }
-        let first = text_at(self.bytes, at + 8);
-        let second = text_at(self.bytes, at + 16);
-        let third = text_at(self.bytes, at + 24);
-        let fourth = text_at(self.bytes, at + 32);
-        Some(ended(command, first, second, third, fourth))
+        Some(ended(Step {
+            command,
+            first: text_at(self.bytes, at + 8),
+            second: text_at(self.bytes, at + 16),
+            third: text_at(self.bytes, at + 24),
+            fourth: text_at(self.bytes, at + 32),
+        }))
     }
 }
 

@@ -7,7 +7,7 @@ ghost use Rattle.text.specs.Read.{read_at};
 ghost use Rattle.steps.specs.Text.{is_char, chars_of, is_text, read_text};
 
 use text::field::{At, Malformed};
-use text::put::Cursor;
+use text::put::{Cursor, put_byte};
 use text::scan::find;
 
 // A number, since C has it so.
@@ -25,7 +25,7 @@ pub struct TextField {
 pub fn is_char(b: u8) -> bool
     ensures { result ≡ is_char b }
 {
-    0x21 <= b && b <= 0x7e
+    b.is_ascii_graphic()
 }
 
 // Reads a whole field, from its last character to its first.
@@ -87,15 +87,12 @@ pub fn put_text(area: &mut [u8], to: Cursor, t: Text) -> Cursor
     requires { to.at + length (chars_of t.0) ≤ length area.old }
     ensures { Put area.old to (chars_of t.0) result area.new }
 {
-    let mut at = to.at;
-    let mut sum = to.sum;
+    let mut end = to;
     for b in t.0.to_le_bytes() {
         if !is_char(b) {
-            return Cursor { at, sum };
+            return end;
         }
-        area[at] = b;
-        sum ^= b;
-        at += 1;
+        end = put_byte(area, end, b);
     }
-    Cursor { at, sum }
+    end
 }

@@ -10,6 +10,8 @@ use borrow.Author.Tests.{eq-eqb}
 use lib.Bits.{bit_xor}
 use lib.ListN.{length, get_or, take, drop, set, drop_of_length-le, length-append, length-drop}
 use lib.Seq.{drop-cons, take_all, set_out, sets}
+use Rattle.std.specs.Prelude.{position, unwrap_or}
+use Rattle.std.proofs.lemmas.Grind.{common_steps}
 use Rattle.text.specs.Scan.{until, before}
 use Rattle.text.specs.Put.{Put, PutAt, xor_onto}
 use Rattle.text.specs.declared.put.Cursor.{Cursor}
@@ -28,17 +30,11 @@ rest n s = take_all (length s - n) (drop n s) (simp length-drop (omega arith))
 
 -- ---- a search
 
-pub until_hit : (test : ℕ → Bool) (s : List ℕ) (i : ℕ) → i < length s → test (get_or s i 0) ≡ true → until test (drop i s) ≡ 0
+-- the index that the library's search finds
+pub position_until : (test : ℕ → Bool) (s : List ℕ) → unwrap_or (position test s) (length s) ≡ until test s
 unfolding until
-until_hit test s i h e = simp (here s i h, e)
-
-pub until_miss : (test : ℕ → Bool) (s : List ℕ) (i : ℕ) → i < length s → test (get_or s i 0) ≡ false → until test (drop i s) ≡ suc (until test (drop (i + 1) s))
-unfolding until
-until_miss test s i h e = simp (here s i h, e)
-
-pub until_end : (test : ℕ → Bool) (s : List ℕ) (i : ℕ) → length s ≤ i → until test (drop i s) ≡ 0
-unfolding until
-until_end test s i h = rw (over s i h)
+position_until test [] = refl
+position_until test (b ∷ s) = grind (arith, common_steps, position_until test s)
 
 -- a search passes over us
 abbrev pub Skips : (ℕ → Bool) → List ℕ → Type 0

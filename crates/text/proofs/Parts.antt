@@ -1,10 +1,9 @@
 -- Laws of a text that is written in parts.
 use Prim.Native.Nat.{ℕ, ◌+◌}
 use mathlib.Core.Path.{◌≡◌, refl, sym, ◌∙◌}
-use mathlib.Core.List.{List, [], ◌∷◌, ◌++◌}
+use mathlib.Core.List.{List, [], ◌++◌}
 use native.Mathlib.Omega.{arith}
-use lib.Bits.{bit_xor}
-use lib.ListN.{length, set, length-append}
+use lib.ListN.{length, length-append}
 use lib.Seq.{sets}
 use Rattle.text.specs.Put.{Put, xor_onto}
 use Rattle.text.specs.declared.put.Cursor.{Cursor}
@@ -20,11 +19,6 @@ pub record Left (xs : List ℕ) (to : Cursor) (whole ys : List ℕ) (p : Cursor)
 -- nothing is written yet
 pub begun : {xs : List ℕ} {to : Cursor} {whole : List ℕ} → Left xs to whole xs to whole
 begun = record { size = refl; next = refl; sum = refl; area = refl }
-
--- one byte is written
-pub put_one : (xs : List ℕ) (at sum b : ℕ) → Put xs (record { at = at; sum = sum }) (b ∷ []) (record { at = at + 1; sum = bit_xor sum b }) (set xs at b)
-unfolding xor_onto
-put_one xs at sum b = record { next = refl; sum = refl; area = refl }
 
 -- a part is written
 pub moved : {xs : List ℕ} {to : Cursor} {whole ys : List ℕ} {p : Cursor} (us : List ℕ) {left : List ℕ} {q : Cursor} {zs : List ℕ} → Left xs to whole ys p (us ++ left) → Put ys p us q zs → length zs ≡ length ys → Left xs to whole zs q left

@@ -3,7 +3,8 @@
 ghost use Rattle.std.specs.Prelude.{[], ◌∷◌, ◌<◌, ◌≤◌, ◌+◌, length};
 ghost use Rattle.text.specs.Put.{Put};
 
-// Where the next byte is written, and the exclusive or of the bytes written so far.
+// Where the next byte is written, and the exclusive or of the bytes written so far. The area stands beside it: of a struct
+// that held both, every writer would have to promise that it still holds the caller's area.
 #[derive(Clone, Copy)]
 pub struct Cursor {
     pub at: usize,
@@ -28,12 +29,9 @@ pub fn put_bytes(area: &mut [u8], to: Cursor, s: &[u8]) -> Cursor
     requires { to.at + length s.now ≤ length area.old }
     ensures { Put area.old to s.now result area.new }
 {
-    let mut at = to.at;
-    let mut sum = to.sum;
+    let mut end = to;
     for b in s {
-        area[at] = *b;
-        sum ^= *b;
-        at += 1;
+        end = put_byte(area, end, *b);
     }
-    Cursor { at, sum }
+    end
 }

@@ -5,16 +5,19 @@ ghost use Rattle.text.specs.Scan.{before, empty_or};
 
 use crate::field::At;
 
+// The index of the first `byte` of s; s's length where there is none.
+fn first(s: &[u8], byte: u8) -> usize
+    ensures value { result ≡ before byte s.now }
+    ensures upper_bound { result ≤ length s.now }
+{
+    s.iter().position(|b| *b == byte).unwrap_or(s.len())
+}
+
 // The index of the first `byte` of the text at `from` or after it; the text's length where there is none.
 pub fn find(from: At<'_>, byte: u8) -> usize
     ensures { (result ≡ from.entry.index + before byte (drop from.entry.index from.entry.text.now)) × (result ≤ length from.entry.text.now) }
 {
-    for i in from.index..from.text.len() {
-        if from.text[i] == byte {
-            return i;
-        }
-    }
-    from.text.len()
+    from.index + first(&from.text[from.index..], byte)
 }
 
 // Whether a field ends there: at SP, or at the end of the text.

@@ -9,27 +9,23 @@ use crate::put::{Cursor, put_byte};
 use crate::scan::is_end;
 
 // Reads the digits that stand at an index, 4 at most.
+#[tactic(auto, unfolding(crate::specs::Whole::digit_count, crate::specs::Whole::digit_value))]
 pub fn read_digits(from: At<'_>) -> Field<u16>
     ensures end_value { (result.end ≡ from.entry.index + digit_count 4 (drop from.entry.index from.entry.text.now)) × (result.value ≡ digit_value 4 0 (drop from.entry.index from.entry.text.now)) }
     ensures end_in_bounds { (result.end ≤ length from.entry.text.now) × (result.value < 10000) }
 {
-    let room = from.text.len() - from.index;
-    let most = if room < 4 { room } else { 4 };
-    let mut value: u16 = 0;
-    for k in 0..most {
-        let b = from.text[from.index + k];
+    let mut digits = Field {
+        value: 0,
+        end: from.index,
+    };
+    for b in from.text[from.index..].iter().take(4) {
         if !b.is_ascii_digit() {
-            return Field {
-                value,
-                end: from.index + k,
-            };
+            return digits;
         }
-        value = value * 10 + (b - b'0') as u16;
+        digits.value = digits.value * 10 + (*b - b'0') as u16;
+        digits.end += 1;
     }
-    Field {
-        value,
-        end: from.index + most,
-    }
+    digits
 }
 
 // Reads the field at an index as a whole number, byte by byte up to its end; any other text is malformed.

@@ -3,7 +3,7 @@ use Rattle.std.proofs.Common.{rules, tests, ◌∙◌}
 use Rattle.std.proofs.lemmas.Iterator.{YieldsList-from_slice}
 use Rattle.std.proofs.lemmas.Iterator.Search.{position_from_yields_List}
 use Rattle.frame.specs.Frame.{is_stray}
-use Rattle.frame.proofs.Pass.{position_until}
+use Rattle.text.proofs.Laws.{position_until}
 use Rattle.frame.proofs.reader.find_stray.Goals as goal
 
 pub returns-clause-value : goal.returns-clause-value

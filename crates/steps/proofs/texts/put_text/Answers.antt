@@ -2,8 +2,8 @@ use Prim.Native.Nat.{ℕ}
 use mathlib.Core.Path.{sym, ap, ◌∙◌}
 use mathlib.Core.List.{[], ◌∷◌}
 use native.Mathlib.Omega.{arith}
-use lib.ListN.{length, get_or, length-set}
-use Rattle.text.proofs.Parts.{begun, moved, done, put_one}
+use lib.ListN.{length, get_or}
+use Rattle.text.proofs.Parts.{begun, moved, done}
 use Rattle.steps.proofs.Laws.{leading, leading_none, leading_stop, leading_more, leading_le}
 use Rattle.steps.proofs.texts.put_text.Goals as goal
 
@@ -16,8 +16,8 @@ pub returns-then-not-is_char : goal.returns-then-not-is_char
 returns-then-not-is_char c =
     done (rw (leading_stop c.to_le_bytes-b-items.result c.loop-b.b-index (omega arith) (sym c.is_char.ensures ∙ c.if-not-is_char.true)) at c.loop-b.invariant)
 
-pub bounds-area-at : goal.bounds-area-at
-bounds-area-at c =
+pub put_byte-end-requires : goal.put_byte-end-requires
+put_byte-end-requires c =
     let e = leading_more c.to_le_bytes-b-items.result c.loop-b.b-index (omega arith) (sym c.is_char.ensures ∙ c.if-not-is_char.false) in
     omega (arith, ap length e, c.loop-b.invariant.next, c.loop-b.invariant.size)
 
@@ -25,7 +25,7 @@ pub loop-b-preserved : goal.loop-b-preserved
 loop-b-preserved c =
     let b : ℕ = get_or c.to_le_bytes-b-items.result c.loop-b.b-index 0 in
     let e = leading_more c.to_le_bytes-b-items.result c.loop-b.b-index (omega arith) (sym c.is_char.ensures ∙ c.if-not-is_char.false) in
-    moved (b ∷ []) (rw e at c.loop-b.invariant) (put_one _ _ _ _) (length-set c.loop-b.area c.loop-b.at b)
+    moved (b ∷ []) (rw e at c.loop-b.invariant) c.put_byte-end.ensures c.put_byte-end.auto.area
 
 pub returns : goal.returns
 returns c =

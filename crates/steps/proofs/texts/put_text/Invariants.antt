@@ -7,4 +7,4 @@ use Rattle.steps.proofs.Laws.{leading}
 use Rattle.steps.proofs.texts.put_text.Given as goal
 
 abbrev pub invariant-loop-b : goal.invariant-loop-b
-invariant-loop-b l = Left l.initial.area (record { at = l.initial.at; sum = l.initial.sum }) (chars_of l.fn.t.0) l.area (record { at = l.at; sum = l.sum }) (leading (drop l.b-index l.b-items))
+invariant-loop-b l = Left l.initial.area l.initial.end (chars_of l.fn.t.0) l.area l.end (leading (drop l.b-index l.b-items))

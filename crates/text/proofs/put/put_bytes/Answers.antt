@@ -1,7 +1,6 @@
 use native.Mathlib.Omega.{arith}
 use Rattle.std.proofs.lemmas.List.{take_more}
 use Rattle.text.proofs.Laws.{put_none, put_then}
-use Rattle.text.proofs.Parts.{put_one}
 use Rattle.text.proofs.put.put_bytes.Goals as goal
 
 pub loop-b-init : goal.loop-b-init
@@ -10,4 +9,4 @@ loop-b-init c =
 
 pub loop-b-preserved : goal.loop-b-preserved
 loop-b-preserved c =
-    rw (take_more c.args.s.now c.loop-b.b-index 0 (omega arith)) (put_then c.loop-b.invariant (put_one c.loop-b.area c.loop-b.at c.loop-b.sum _))
+    rw (take_more c.args.s.now c.loop-b.b-index 0 (omega arith)) (put_then c.loop-b.invariant c.put_byte-end.ensures)

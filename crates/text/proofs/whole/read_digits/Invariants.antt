@@ -1,12 +1,14 @@
--- The invariant: k digits were passed and made n, and those that follow are counted and read onto it.
-use Rattle.std.proofs.Common.{◌≡◌, ℕ, ◌+◌, ◌-◌, ◌^◌, ◌<◌, List, drop}
+-- The invariant: the digits passed made the value, and those of the n bytes still to come are counted and read onto it.
+use Rattle.std.proofs.Common.{◌≡◌, ℕ, ◌+◌, ◌-◌, ◌^◌, ◌≤◌, ◌<◌, List, length, drop}
 use Rattle.text.specs.Whole.{digit_count, digit_value}
 use Rattle.text.proofs.whole.read_digits.Given as goal
 
-pub record Passed (s : List ℕ) (from n k : ℕ) : Type 0 where
-  pub small : n < 10 ^ k
-  pub counted : digit_count 4 (drop from s) ≡ k + digit_count (4 - k) (drop (from + k) s)
-  pub valued : digit_value 4 0 (drop from s) ≡ digit_value (4 - k) n (drop (from + k) s)
+pub record Passed (s rest : List ℕ) (from value end n : ℕ) : Type 0 where
+  pub most : n ≤ 4
+  pub small : value < 10 ^ (4 - n)
+  pub inside : end + length rest ≡ length s
+  pub counted : from + digit_count 4 (drop from s) ≡ end + digit_count n rest
+  pub valued : digit_value 4 0 (drop from s) ≡ digit_value n value rest
 
-abbrev pub invariant-loop-k : goal.invariant-loop-k
-invariant-loop-k l = Passed l.from.text.now l.from.index l.value l.k
+abbrev pub invariant-loop-b : goal.invariant-loop-b
+invariant-loop-b l = Passed l.from.text.now l.b-iterator.iter.rest.now l.from.index l.digits.value l.digits.end l.b-iterator.n
