@@ -58,7 +58,8 @@ pub enum Request {
     Store(Store),
 }
 
-// The data of a request: none for an LN, the numbers or the texts of an SN.
+// The data of a request: none for an LN, the numbers or the texts of an SN. One enum of three, so that a match needs no
+// second one inside an Option.
 #[derive(Clone, Copy)]
 pub enum Payload {
     None,
@@ -160,43 +161,49 @@ fn single(command: Command, number: u16, v: i32) -> Parts
     }
 }
 
-fn load_parts(load: Load) -> Parts
-    ensures { result ≡ load_parts load }
-{
-    match load {
-        Load::Timer(n) => bare(Command::Lnt, n),
-        Load::Register(n) => bare(Command::Lnd, n),
-        Load::Row(n) => bare(Command::Lnl, n),
-        Load::Input(s) => bare(Command::Lnib, s.0),
-        Load::InputPort(p) => bare(Command::Lnid, p.0),
-        Load::Output(s) => bare(Command::Lnob, s.0),
-        Load::OutputPort(p) => bare(Command::Lnod, p.0),
-        Load::MemoryBit(s) => bare(Command::Lnbb, s.0),
-        Load::MemoryPort(p) => bare(Command::Lnbd, p.0),
-        Load::Step(n) => bare(Command::Lna, n),
+// The parts of a load.
+impl From<Load> for Parts {
+    ghost from_gives = { λ load parts. parts ≡ load_parts load };
+
+    fn from(load: Load) -> Parts {
+        match load {
+            Load::Timer(n) => bare(Command::Lnt, n),
+            Load::Register(n) => bare(Command::Lnd, n),
+            Load::Row(n) => bare(Command::Lnl, n),
+            Load::Input(s) => bare(Command::Lnib, s.0),
+            Load::InputPort(p) => bare(Command::Lnid, p.0),
+            Load::Output(s) => bare(Command::Lnob, s.0),
+            Load::OutputPort(p) => bare(Command::Lnod, p.0),
+            Load::MemoryBit(s) => bare(Command::Lnbb, s.0),
+            Load::MemoryPort(p) => bare(Command::Lnbd, p.0),
+            Load::Step(n) => bare(Command::Lna, n),
+        }
     }
 }
 
-fn store_parts(store: Store) -> Parts
-    ensures { result ≡ store_parts store }
-{
-    match store {
-        Store::Timer(n, v) => single(Command::Snt, n, v),
-        Store::Register(n, v) => single(Command::Snd, n, v),
-        Store::Row(n, row) => Parts {
-            command: Command::Snl,
-            number: n,
-            payload: Payload::Numbers(row),
-        },
-        Store::Output(s, v) => single(Command::Snob, s.0, v),
-        Store::OutputPort(p, v) => single(Command::Snod, p.0, v),
-        Store::MemoryBit(s, v) => single(Command::Snbb, s.0, v),
-        Store::MemoryPort(p, v) => single(Command::Snbd, p.0, v),
-        Store::Step(n, step) => Parts {
-            command: Command::Sna,
-            number: n,
-            payload: Payload::Texts(step),
-        },
+// The parts of a store.
+impl From<Store> for Parts {
+    ghost from_gives = { λ store parts. parts ≡ store_parts store };
+
+    fn from(store: Store) -> Parts {
+        match store {
+            Store::Timer(n, v) => single(Command::Snt, n, v),
+            Store::Register(n, v) => single(Command::Snd, n, v),
+            Store::Row(n, row) => Parts {
+                command: Command::Snl,
+                number: n,
+                payload: Payload::Numbers(row),
+            },
+            Store::Output(s, v) => single(Command::Snob, s.0, v),
+            Store::OutputPort(p, v) => single(Command::Snod, p.0, v),
+            Store::MemoryBit(s, v) => single(Command::Snbb, s.0, v),
+            Store::MemoryPort(p, v) => single(Command::Snbd, p.0, v),
+            Store::Step(n, step) => Parts {
+                command: Command::Sna,
+                number: n,
+                payload: Payload::Texts(step),
+            },
+        }
     }
 }
 
@@ -206,8 +213,8 @@ impl From<Request> for Parts {
 
     fn from(request: Request) -> Parts {
         match request {
-            Request::Load(load) => load_parts(load),
-            Request::Store(store) => store_parts(store),
+            Request::Load(load) => load.into(),
+            Request::Store(store) => store.into(),
         }
     }
 }

@@ -2,7 +2,8 @@
 use Rattle.std.specs.Prelude.{ℕ, ◌%◌, Bool, true, List, map, ℤ, pos, nat_abs, length, drop, replicate, Option, option_map}
 use Rattle.text.specs.Whole.{read_whole, shortest, padded}
 use Rattle.text.specs.Hundredths.{read_hundredths, hundredths_text}
-use Rattle.text.specs.Read.{Read, read_at}
+use Rattle.text.specs.declared.field.Field.{Field}
+use Rattle.text.specs.Read.{Read, read_at, field_with}
 use Rattle.frame.specs.Fields.{fields, placed, read_fields, reads_as, spaced, offending}
 use Rattle.commands.specs.declared.table.Kind.{Kind}
 use Rattle.commands.specs.declared.table.Kind.TheVariants as kind
@@ -22,6 +23,10 @@ read_field kind.Row = read_hundredths
 read_field kind.Register = read_whole_field
 read_field kind.Signal = read_whole_field
 read_field kind.Port = read_whole_field
+
+-- the field that stands at an index as a value of a kind; a malformed one is reported where it stands
+abbrev pub field_in : Kind → List ℕ → ℕ → Read (Field ℤ)
+field_in k s i = read_at i (field_with (read_field k) s i)
 
 -- the digits of a whole value, which has at most 4
 abbrev pub digits_of : ℤ → ℕ

@@ -2,7 +2,7 @@
 ghost use Rattle.std.specs.Prelude.{◌≡◌, ◌≤◌, ◌+◌, length};
 ghost use Rattle.text.specs.Put.{Put};
 ghost use Rattle.text.specs.Read.{read_field_at};
-ghost use Rattle.numbers.specs.Numbers.{read_whole_field, read_field, digits_of, field_text};
+ghost use Rattle.numbers.specs.Numbers.{read_whole_field, field_in, digits_of, field_text};
 
 use commands::table::Kind;
 use text::field::{At, Field, Malformed};
@@ -23,7 +23,7 @@ fn whole_field(from: At<'_>) -> Result<Field<i32>, Malformed>
 
 // Reads the field at an index as a value of a kind.
 pub fn read_field(kind: Kind, from: At<'_>) -> Result<Field<i32>, Malformed>
-    ensures { result ≡ read_field_at (read_field kind) from.entry.text.now from.entry.index }
+    ensures { result ≡ field_in kind from.entry.text.now from.entry.index }
 {
     match kind {
         Kind::Timer | Kind::Row => read_hundredths(from),

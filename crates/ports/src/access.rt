@@ -1,5 +1,7 @@
-// The ports of one arm, whole and by signal. Inputs, outputs and memory share what reads them. A write of an output port
-// also changes the number of outputs that are on: it is given the number, and returns what it then is.
+// The ports of one arm, whole and by signal. Inputs, outputs and memory share what reads them, so that each function asks
+// anew whether a port is one of those it is lent: there are 32 or 16. A write of an output port also changes the number of
+// outputs that are on, which stands in a table of its own: it is given the number, and returns what it then is. Memory has no
+// such number, and so its writers are others.
 ghost use Rattle.std.specs.Prelude.{◌≡◌, ◌<◌, length, get_or, set, nat_abs, pos};
 ghost use Rattle.replies.specs.declared.reply.Data.TheVariants as held;
 ghost use Rattle.ports.specs.Bits.{bit, with_bit};

@@ -5,7 +5,12 @@ ghost use Rattle.ports.specs.Place.{place_of, spot};
 use crate::place::Place;
 use commands::request::Signal;
 
-// The place of a signal in ports that start with the signal `first`: 0 for inputs and outputs, 256 for memory bits.
+// The number of the first input and output, and of the first memory bit.
+pub const FIRST_SIGNAL: u16 = 0;
+
+pub const FIRST_MEMORY_BIT: u16 = 256;
+
+// The place of a signal in ports that start with the signal `first`.
 pub fn place_of(first: u16, signal: Signal) -> Place
     requires { first ≤ signal.0 }
     ensures { spot result ≡ place_of first signal.0 }

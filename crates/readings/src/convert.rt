@@ -40,14 +40,17 @@ fn from_hundredths(n: i32) -> f64
     n as f64 / 100.0
 }
 
-fn in_millimetres(row: Row) -> Millimetres
-    ensures { result ≡ millimetres_of row }
-{
-    let x = from_hundredths(row.x);
-    let y = from_hundredths(row.y);
-    let z = from_hundredths(row.z);
-    let w = from_hundredths(row.w);
-    Millimetres { x, y, z, w }
+impl From<Row> for Millimetres {
+    ghost from_gives = { λ row millimetres. millimetres ≡ millimetres_of row };
+
+    fn from(row: Row) -> Millimetres {
+        Millimetres {
+            x: from_hundredths(row.x),
+            y: from_hundredths(row.y),
+            z: from_hundredths(row.z),
+            w: from_hundredths(row.w),
+        }
+    }
 }
 
 fn count(n: i32) -> Converted
@@ -56,14 +59,14 @@ fn count(n: i32) -> Converted
     Converted::Reading(Reading::Count(n as f64))
 }
 
-// Three arms for counts: the toolchain proves no or-pattern that binds a signed number beside an arm with a call.
+// Three arms for counts: Rattle proves no or-pattern that binds a signed number beside an arm with a call.
 fn convert_data(held: Data) -> Converted
     ensures { result ≡ convert_data held }
 {
     match held {
         Data::Timer(n) => Converted::Reading(Reading::Seconds(from_hundredths(n))),
         Data::Register(n) => count(n),
-        Data::Row(row) => Converted::Reading(Reading::Millimetres(in_millimetres(row))),
+        Data::Row(row) => Converted::Reading(Reading::Millimetres(row.into())),
         Data::Signal(n) => count(n),
         Data::Port(n) => count(n),
         Data::Step(n, step) => Converted::Step(n, step),

@@ -2,7 +2,6 @@
 ghost use Rattle.std.specs.Prelude.{◌≡◌, ◌≤◌, ◌+◌, length};
 ghost use Rattle.text.specs.Put.{Put};
 ghost use Rattle.commands.specs.Request.{one};
-ghost use Rattle.refusals.specs.Refusal.{number_of};
 ghost use Rattle.replies.specs.Reply.{numbers_content, content_of, status_text, number_part, content_text, number_in, performed_text, refusal_text};
 
 use commands::request::{Payload, Row};
@@ -30,14 +29,15 @@ pub enum Data {
     Step(u16, Step),
 }
 
-// What a reply carries: data, or a status. For an SN the status 0 means done.
+// What a reply carries: data, or a status. For an SN the status 0 means done. A status is a number, since a reply may carry
+// any with two digits, and not the numbers of refusals alone.
 #[derive(Clone, Copy)]
 pub enum Outcome {
     Data(Data),
     Status(u8),
 }
 
-// Data by their form: a step with its number, numbers with 0.
+// Data by their form: a step with its number, numbers with 0, which nothing writes (`number_part`).
 #[derive(Clone, Copy)]
 pub struct Content {
     pub number: u16,
@@ -62,20 +62,22 @@ fn single(kind: Kind, v: i32) -> Content
 }
 
 // The form of data, and what they are.
-pub fn content_of(held: Data) -> Content
-    ensures { result ≡ content_of held }
-{
-    match held {
-        Data::Timer(v) => single(Kind::Timer, v),
-        Data::Register(v) => single(Kind::Register, v),
-        Data::Row(row) => numbers(Kind::Row, row),
-        Data::Signal(v) => single(Kind::Signal, v),
-        Data::Port(v) => single(Kind::Port, v),
-        Data::Step(n, step) => Content {
-            number: n,
-            form: Form::Texts,
-            payload: Payload::Texts(step),
-        },
+impl From<Data> for Content {
+    ghost from_gives = { λ held content. content ≡ content_of held };
+
+    fn from(held: Data) -> Content {
+        match held {
+            Data::Timer(v) => single(Kind::Timer, v),
+            Data::Register(v) => single(Kind::Register, v),
+            Data::Row(row) => numbers(Kind::Row, row),
+            Data::Signal(v) => single(Kind::Signal, v),
+            Data::Port(v) => single(Kind::Port, v),
+            Data::Step(n, step) => Content {
+                number: n,
+                form: Form::Texts,
+                payload: Payload::Texts(step),
+            },
+        }
     }
 }
 
@@ -95,16 +97,16 @@ pub fn put_status(area: &mut [u8], to: Cursor, store: bool, n: u8) -> Cursor
     put_two_digits(area, digits, n as u16)
 }
 
-// Writes what answers a refusal: of a name that is no command's, or of an LN or SN name.
+// Writes what answers a refusal by its number: of a name that is no command's, or of an LN or SN name.
 #[tactic(auto, using(crate::proofs::Texts::status_length))]
-pub fn put_refusal(area: &mut [u8], to: Cursor, refusal: Refusal, store: bool) -> Cursor
+pub fn put_refusal(area: &mut [u8], to: Cursor, n: u8, store: bool) -> Cursor
     requires { to.at + 3 ≤ length area.old }
-    ensures { Put area.old to (refusal_text (number_of refusal) store) result area.new }
+    ensures { Put area.old to (refusal_text n store) result area.new }
 {
-    if refusal == Refusal::Command {
+    if n == Refusal::Command.number() {
         return put_bytes(area, to, &UNKNOWN);
     }
-    put_status(area, to, store, refusal.number())
+    put_status(area, to, store, n)
 }
 
 // Writes the number and SP that stand before the texts of a step.
@@ -126,7 +128,7 @@ pub fn put_held(area: &mut [u8], to: Cursor, held: Data) -> Cursor
     requires { to.at + length (content_text (content_of held)) ≤ length area.old }
     ensures { Put area.old to (content_text (content_of held)) result area.new }
 {
-    let content = content_of(held);
+    let content = Content::from(held);
     let from = put_number(area, to, content.form, content.number);
     put_data(area, from, content.form, content.payload)
 }

@@ -7,7 +7,7 @@ ghost use Rattle.reply_writer.specs.Writer.{number_fits, judge_outcome, outcome_
 use commands::table::{Form, Rule};
 use data::ranges::in_ranges;
 use refusals::refusal::Refusal;
-use replies::reply::{Outcome, content_of, put_held, put_status};
+use replies::reply::{Content, Outcome, put_held, put_status};
 use text::put::Cursor;
 
 // Whether data of a form may have the number n where another is asked for: numbers may.
@@ -27,7 +27,7 @@ pub fn judge_outcome(rule: Rule, asked: u16, outcome: Outcome) -> Result<(), Ref
 {
     let fits = match outcome {
         Outcome::Data(held) => {
-            let content = content_of(held);
+            let content = Content::from(held);
             !rule.store
                 && content.form == rule.form
                 && number_fits(rule.form, asked, content.number)
@@ -38,7 +38,8 @@ pub fn judge_outcome(rule: Rule, asked: u16, outcome: Outcome) -> Result<(), Ref
     if fits { Ok(()) } else { Err(Refusal::Value) }
 }
 
-// Writes what a reply to an SN (`store`) or to an LN carries.
+// Writes what a reply to an SN (`store`) or to an LN carries. `put_performed` of crate replies is not told which it is, and
+// goes by the status; the two share what writes data and what writes a status.
 #[tactic(auto, unfolding(crate::specs::Writer::outcome_text))]
 pub fn put_outcome(area: &mut [u8], to: Cursor, store: bool, outcome: Outcome) -> Cursor
     requires { to.at + length (outcome_text store outcome) ≤ length area.old }

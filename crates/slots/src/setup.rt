@@ -84,6 +84,7 @@ pub fn setup(
     *stations = [0; 4];
     judge_setup(programs, want)?;
     programs::memory::clear(programs);
+    // Each by itself: the closure of a `map` is not told that the stations are judged.
     *stations = [want[0] as u8, want[1] as u8, want[2] as u8, want[3] as u8];
     Ok(())
 }

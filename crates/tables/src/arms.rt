@@ -1,7 +1,11 @@
 // The tables of four arms, lent by the caller.
 
-// One table for each kind, and for each field of a row. The memory of the START programs is lent beside them: input calls are
-// lent none.
+// One table for each kind, and for each field of a row, as C lends them. What is lent `&mut Arms` promises that it still holds
+// the same tables (`SameTables`).
+//
+// Two things are lent beside them and not in here: the memory of the START programs, of which input calls are lent none, and
+// which is a slice of any length until check 1 has judged it; and the stations, which setup writes and every other call may
+// only read, as `&[u8; 4]` says by itself.
 #[derive(Drop)]
 pub struct Arms<'a> {
     pub timers: &'a mut [[u16; 16]; 4],

@@ -5,7 +5,7 @@ ghost use Rattle.replies.specs.declared.reply.Data.TheVariants as held;
 ghost use Rattle.programs.specs.Memory.{step_at};
 ghost use Rattle.replies.specs.Reply.{step_outcome};
 ghost use Rattle.harl.specs.Message.{judge_request};
-ghost use Rattle.tables.specs.Tables.{columns, row_at, each_with, with_rows, atz2, set2, loaded, stored, LoadInRange, StoreInRange, Performed};
+ghost use Rattle.tables.specs.Tables.{columns, row_at, each_with, with_rows, set2, loaded, stored, LoadInRange, StoreInRange, Performed};
 ghost use Rattle.tables.specs.Arms.{tables_of, SameTables};
 
 use crate::arms::Arms;
@@ -13,16 +13,11 @@ use commands::request::{Load, Request, Row, Store};
 use ports::access::{
     load_port, load_signal, store_bit, store_output, store_output_port, store_port,
 };
-use ports::signal::place_of;
+use ports::signal::{FIRST_MEMORY_BIT, FIRST_SIGNAL, place_of};
 use programs::memory::Programs;
 use programs::slot::Slot;
 use refusals::refusal::Refusal;
 use replies::reply::{Data, Outcome};
-
-// The number of the first input and output, and of the first memory bit.
-const FIRST_SIGNAL: u16 = 0;
-
-const FIRST_MEMORY_BIT: u16 = 256;
 
 // The value of a timer or a register.
 fn load_word(words: &[u16], n: u16) -> i32
@@ -30,14 +25,6 @@ fn load_word(words: &[u16], n: u16) -> i32
     ensures { result ≡ pos (get_or words.now n 0) }
 {
     words[n as usize] as i32
-}
-
-// One field of a row.
-fn load_offset(offsets: &[[i32; 100]; 4], slot: Slot, n: u16) -> i32
-    requires { n < 100 }
-    ensures { result ≡ atz2 offsets.now slot.index n }
-{
-    offsets[slot.index][n as usize]
 }
 
 // What is replied of step n of slot's program.
@@ -59,25 +46,19 @@ fn store_word(words: &mut [u16], n: u16, v: i32)
     words[n as usize] = v.unsigned_abs() as u16;
 }
 
-// Replaces one field of a row.
-fn store_offset(offsets: &mut [[i32; 100]; 4], slot: Slot, n: u16, v: i32)
-    requires { n < 100 }
-    ensures { offsets.new ≡ set2 offsets.old slot.index n v }
-{
-    offsets[slot.index][n as usize] = v;
-}
-
 impl Arms<'_> {
     // The fields of a row.
     fn load_row(&self, slot: Slot, n: u16) -> Data
         requires { n < 100 }
         ensures { result ≡ held.Row (row_at slot.index n (columns self.now.x.now self.now.y.now self.now.z.now self.now.w.now)) }
     {
+        let (k, i) = (slot.index, n as usize);
+        let (x, y, z, w) = (&*self.x, &*self.y, &*self.z, &*self.w);
         Data::Row(Row {
-            x: load_offset(self.x, slot, n),
-            y: load_offset(self.y, slot, n),
-            z: load_offset(self.z, slot, n),
-            w: load_offset(self.w, slot, n),
+            x: x[k][i],
+            y: y[k][i],
+            z: z[k][i],
+            w: w[k][i],
         })
     }
 
@@ -88,7 +69,7 @@ impl Arms<'_> {
         ensures { result ≡ loaded slot.index load (tables_of self.now programs.now.bytes.now) }
     {
         let k = slot.index;
-        // The borrow checker does not cover `self.timers[k]` here: an element of an array behind a `&mut` behind a `&`.
+        // The borrow checker does not cover `&self.timers[k]`: an element of an array behind a `&mut` behind a `&`.
         let (timers, registers) = (&*self.timers, &*self.registers);
         let (inputs, outputs, memory) = (&*self.inputs, &*self.outputs, &*self.memory);
         match load {
@@ -113,10 +94,11 @@ impl Arms<'_> {
         ensures tables_after { (m : List ℕ) → tables_of self.new m ≡ with_rows (tables_of self.old m) (each_with (λ c v. set2 c slot.index n v) (tables_of self.old m).rows row) }
         ensures same_tables { SameTables self.old self.new }
     {
-        store_offset(self.x, slot, n, row.x);
-        store_offset(self.y, slot, n, row.y);
-        store_offset(self.z, slot, n, row.z);
-        store_offset(self.w, slot, n, row.w);
+        let (k, i) = (slot.index, n as usize);
+        self.x[k][i] = row.x;
+        self.y[k][i] = row.y;
+        self.z[k][i] = row.z;
+        self.w[k][i] = row.w;
     }
 
     // Replaces what slot's arm holds under the number of a store by its data.
