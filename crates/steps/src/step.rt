@@ -8,7 +8,7 @@ use crate::texts::{Text, is_text, put_text, read_text};
 use text::field::{At, Malformed};
 use text::put::{Cursor, put_byte};
 
-// The command and the data, 0 for each that is not there.
+// The command and the data, 0 for each that is not there: five numbers, as C lends them.
 #[derive(Clone, Copy)]
 pub struct Step {
     pub command: Text,

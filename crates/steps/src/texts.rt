@@ -14,7 +14,8 @@ use text::scan::find;
 #[derive(Clone, Copy)]
 pub struct Text(pub u64);
 
-// What a field is as a text, and where it ends, which is told of a malformed one too.
+// What a field is as a text, and where it ends, which is told of a malformed one too (`end_value` of `read_text`), so that it
+// is no Result.
 #[derive(Clone, Copy)]
 pub struct TextField {
     pub text: Result<Text, Malformed>,
@@ -28,7 +29,7 @@ pub fn is_char(b: u8) -> bool
     b.is_ascii_graphic()
 }
 
-// Reads a whole field, from its last character to its first.
+// Reads a whole field, from its last character to its first: `from_le_bytes` wants eight bytes, and a field has up to eight.
 #[tactic(auto, unfolding(crate::specs::Text::read_text))]
 fn read_packed(field: &[u8]) -> Option<Text>
     ensures { result ≡ read_text field.now }
