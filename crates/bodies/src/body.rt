@@ -1,9 +1,10 @@
 // The body of a request, read and written. Serving reads a body whose frame and station it has judged.
-ghost use Rattle.std.specs.Prelude.{◌≡◌, ◌≤◌, ◌+◌, true, cond, List, ℕ, eqb, length, drop};
+ghost use Rattle.std.specs.Prelude.{◌≡◌, ◌≤◌, ◌+◌, true, cond, eqb, length, drop};
 ghost use Rattle.text.specs.Put.{Put};
 ghost use Rattle.frame.specs.Fields.{placed};
 ghost use Rattle.frame.specs.Frame.{read_frame};
-ghost use Rattle.steps.specs.Step.{step_from, is_step};
+ghost use Rattle.steps.specs.declared.step.Step.{Step};
+ghost use Rattle.steps.specs.Step.{is_step};
 ghost use Rattle.names.specs.declared.command.Command.TheVariants.{Sna};
 ghost use Rattle.commands.specs.declared.request.Payload.TheVariants as payload;
 ghost use Rattle.commands.specs.Table.{rule_of};
@@ -22,15 +23,15 @@ use text::put::{Cursor, put_byte};
 use text::whole::{put_shortest, read_whole};
 
 // What the fields after a name are: a number, numbers as data (zeros for an LN, which has none), and where the data start;
-// or a number, texts as data, which stand in the array that was lent, and where they start.
+// or a number, texts as data, which stand in the step that was lent, and where they start.
 #[derive(Clone, Copy)]
 pub enum Shape {
     Of(u16, Row, usize),
     Texts(u16, usize),
 }
 
-// What an accepted body asks for: a request; or that the step of this number be stored, whose texts stand in the array that
-// was lent. So no accepted request is copied with room for them (docs/SPEED.md).
+// What an accepted body asks for: a request; or that the step be stored under this number that stands in what the caller lends.
+// So no accepted request is copied with room for texts (docs/SPEED.md).
 #[derive(Clone, Copy)]
 pub enum Parsed {
     Request(Request),
@@ -47,8 +48,8 @@ pub struct RefusedBody {
 }
 
 // Reads the fields from an index on, which are those after the name.
-fn read_shape(rule: Rule, from: At<'_>, texts: &mut [u64; 5]) -> Result<Shape, Malformed>
-    ensures { shape_with rule.store texts.new result ≡ shape_in rule from.entry.text.now from.entry.index }
+fn read_shape(rule: Rule, from: At<'_>, step: &mut Step) -> Result<Shape, Malformed>
+    ensures { shape_with rule.store step.new result ≡ shape_in rule from.entry.text.now from.entry.index }
 {
     let text = from.text;
     let number = read_whole(from)?;
@@ -64,7 +65,7 @@ fn read_shape(rule: Rule, from: At<'_>, texts: &mut [u64; 5]) -> Result<Shape, M
     if !rule.store {
         return Err(Malformed { position: start });
     }
-    match read_data(rule.form, At { text, index: start }, texts)? {
+    match read_data(rule.form, At { text, index: start }, step)? {
         DataRead::Numbers(row) => Ok(Shape::Of(number.value, row, start)),
         DataRead::Texts => Ok(Shape::Texts(number.value, start)),
     }
@@ -81,7 +82,7 @@ fn request_or_refusal(
     datum: usize,
 ) -> Result<Parsed, RefusedBody>
     requires { rule ≡ rule_of command }
-    ensures { (ts : List ℕ) → judged_with ts result ≡ judged_at (λ m. cond (eqb m 11) number datum) (request_or_refusal command n (given rule.store row)) }
+    ensures { (s : Step) → judged_with s result ≡ judged_at (λ m. cond (eqb m 11) number datum) (request_or_refusal command n (given rule.store row)) }
 {
     let payload = Payload::Numbers(row);
     if let Err(refusal) = judge_parts(rule, n, payload) {
@@ -108,7 +109,7 @@ fn request_or_refusal(
 #[tactic(auto, unfolding(crate::specs::Body::request_or_refusal, data::specs::Ranges::judge))]
 fn step_or_refusal(rule: Rule, n: u16, number: usize) -> Result<Parsed, RefusedBody>
     requires { rule ≡ rule_of Sna }
-    ensures { (ts : List ℕ) → is_step (step_from ts) ≡ true → judged_with ts result ≡ judged_at (λ m. number) (request_or_refusal Sna n (payload.Texts (step_from ts))) }
+    ensures { (s : Step) → is_step s ≡ true → judged_with s result ≡ judged_at (λ m. number) (request_or_refusal Sna n (payload.Texts s)) }
 {
     if is_outside(rule, n) {
         return Err(RefusedBody {
@@ -121,8 +122,8 @@ fn step_or_refusal(rule: Rule, n: u16, number: usize) -> Result<Parsed, RefusedB
 }
 
 // Reads the fields from an index on as a request: checks 9 to 12, in their order.
-fn read_fields(from: At<'_>, texts: &mut [u64; 5]) -> Result<Parsed, RefusedBody>
-    ensures { judged_with texts.new result ≡ judged_at (fields_position (length from.entry.text.now) (placed from.entry.index (drop from.entry.index from.entry.text.now))) (read_body (drop from.entry.index from.entry.text.now)) }
+fn read_fields(from: At<'_>, step: &mut Step) -> Result<Parsed, RefusedBody>
+    ensures { judged_with step.new result ≡ judged_at (fields_position (length from.entry.text.now) (placed from.entry.index (drop from.entry.index from.entry.text.now))) (read_body (drop from.entry.index from.entry.text.now)) }
 {
     let text = from.text;
     let Some(name) = read_name(&text[from.index..]) else {
@@ -146,7 +147,7 @@ fn read_fields(from: At<'_>, texts: &mut [u64; 5]) -> Result<Parsed, RefusedBody
         text,
         index: end + 1,
     };
-    match read_shape(rule, number, texts) {
+    match read_shape(rule, number, step) {
         Ok(Shape::Of(n, row, datum)) => {
             request_or_refusal(command, rule, n, row, number.index, datum)
         }
@@ -160,25 +161,25 @@ fn read_fields(from: At<'_>, texts: &mut [u64; 5]) -> Result<Parsed, RefusedBody
 }
 
 // Reads the body of an accepted frame, which stands before the slice's last two bytes: checks 9 to 12, in their order.
-pub fn read_body(slice: &[u8], body: &[u8], texts: &mut [u64; 5]) -> Result<Parsed, RefusedBody>
+pub fn read_body(slice: &[u8], body: &[u8], step: &mut Step) -> Result<Parsed, RefusedBody>
     requires { ((read_frame slice.now).number ≡ 0) × (body.now ≡ (read_frame slice.now).body) }
-    ensures { judged_with texts.new result ≡ judged_at (body_position slice.now) (read_body (read_frame slice.now).body) }
+    ensures { judged_with step.new result ≡ judged_at (body_position slice.now) (read_body (read_frame slice.now).body) }
 {
     let etx = slice.len() - 2;
     let from = At {
         text: &slice[..etx],
         index: etx - body.len(),
     };
-    read_fields(from, texts)
+    read_fields(from, step)
 }
 
-// The request that an accepted body is, with these texts in the array.
-pub fn request_with(texts: [u64; 5], parsed: Parsed) -> Request
-    ensures { result ≡ request_with texts parsed }
+// The request that an accepted body is, with the texts of this step.
+pub fn request_with(step: Step, parsed: Parsed) -> Request
+    ensures { result ≡ request_with step parsed }
 {
     match parsed {
         Parsed::Request(request) => request,
-        Parsed::Step(n) => Request::Store(Store::Step(n, Step::from(texts))),
+        Parsed::Step(n) => Request::Store(Store::Step(n, step)),
     }
 }
 

@@ -5,7 +5,7 @@ ghost use Rattle.refusals.specs.Refusal.{number_of, refusal_number};
 ghost use Rattle.harl.specs.Message.{judge_asked, asked_values, read_request, write_request, write_reply, unsent, sent_by, Wrote, answered_values, read_reply};
 
 use bodies::body::{put_body, read_body, request_with};
-use commands::request::{Parts, Request};
+use commands::request::{NO_STEP, Parts, Request};
 use commands::table::rule_of;
 use data::ranges::judge_parts;
 use frame::reader::read_frame;
@@ -63,11 +63,11 @@ pub fn read_request(slice: &[u8]) -> Result<Asked, Refused>
     ensures { asked_values result ≡ read_request slice.now }
 {
     let frame = read_frame(slice)?;
-    let mut texts: [u64; 5] = [0; 5];
-    match read_body(slice, frame.body, &mut texts) {
+    let mut step = NO_STEP;
+    match read_body(slice, frame.body, &mut step) {
         Ok(parsed) => Ok(Asked {
             station: frame.station,
-            request: request_with(texts, parsed),
+            request: request_with(step, parsed),
         }),
         Err(refused) => Err(Refused::at(refused.refusal, refused.position)),
     }

@@ -5,12 +5,11 @@ ghost use Rattle.commands.specs.declared.table.Form.TheVariants.{Texts};
 ghost use Rattle.data.specs.Data.{read_data};
 ghost use Rattle.reply_reader.specs.Reader.{numbers_of, data_of, read_status, read_content, as_data, read_load_outcome, read_outcome};
 
-use commands::request::{Payload, Row, row_in, step_in};
+use commands::request::{NO_STEP, Payload, Row, row_in, step_in};
 use commands::table::{Form, Kind, Rule};
 use data::data::{DataRead, read_data};
 use data::ranges::in_ranges;
 use replies::reply::{DONE, Data, Outcome, UNKNOWN};
-use steps::step::Step;
 use text::field::At;
 use text::whole::{read_digits, read_whole};
 
@@ -69,10 +68,10 @@ fn held_in(form: Form, asked: u16, payload: Payload) -> Option<Outcome>
 fn read_content(form: Form, asked: u16, from: At<'_>) -> Option<Outcome>
     ensures { result ≡ as_data form asked (read_data form (fields (drop from.entry.index from.entry.text.now))) }
 {
-    let mut texts: [u64; 5] = [0; 5];
-    match read_data(form, from, &mut texts) {
+    let mut step = NO_STEP;
+    match read_data(form, from, &mut step) {
         Ok(DataRead::Numbers(row)) => held_in(form, asked, Payload::Numbers(row)),
-        Ok(DataRead::Texts) => held_in(form, asked, Payload::Texts(Step::from(texts))),
+        Ok(DataRead::Texts) => held_in(form, asked, Payload::Texts(step)),
         Err(_) => None,
     }
 }

@@ -150,14 +150,14 @@ step_or_refusal-requires c =
 
 pub returns-in-Ok-Of : goal.returns-in-Ok-Of
 returns-in-Ok-Of c =
-    judged c.args.from.text.now c.args.from.index c.args.from.in_bounds c.in-Some.ensures.name_value c.rule_of-rule.ensures c.if-end-text.false (rw c.in-Ok-Of.field-0-is at c.in-Ok-Of.ensures) _ refl (λ z. refl) (c.request_or_refusal.ensures c.read_shape.new.texts)
+    judged c.args.from.text.now c.args.from.index c.args.from.in_bounds c.in-Some.ensures.name_value c.rule_of-rule.ensures c.if-end-text.false (rw c.in-Ok-Of.field-0-is at c.in-Ok-Of.ensures) _ refl (λ z. refl) (c.request_or_refusal.ensures c.read_shape.new.step)
 
 pub returns-in-Ok-Texts : goal.returns-in-Ok-Texts
 returns-in-Ok-Texts c =
     let a = c.args.from in
     let x = rw c.in-Ok-Texts.field-0-is at c.in-Ok-Texts.ensures in
     judged_step a.text.now a.index a.in_bounds c.in-Some.ensures.name_value c.rule_of-rule.ensures c.if-end-text.false x
-    (c.step_or_refusal.ensures c.read_shape.new.texts (stores_step a.text.now a.index a.in_bounds c.in-Some.ensures.name_value c.rule_of-rule.ensures c.if-end-text.false x).1)
+    (c.step_or_refusal.ensures c.read_shape.new.step (stores_step a.text.now a.index a.in_bounds c.in-Some.ensures.name_value c.rule_of-rule.ensures c.if-end-text.false x).1)
 
 pub returns-in-Err : goal.returns-in-Err
 returns-in-Err c =
