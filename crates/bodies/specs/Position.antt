@@ -16,9 +16,10 @@ use Rattle.steps.specs.declared.step.Step.{Step}
 use Rattle.names.specs.Command.{command_of}
 use Rattle.commands.specs.Table.{rule_of}
 use Rattle.data.specs.Ranges.{outside}
+use Rattle.data.specs.declared.data.DataRead.{DataRead}
+use Rattle.data.specs.declared.data.DataRead.TheVariants as read
 use Rattle.data.specs.Data.{data_forms, data_ranges}
 use Rattle.bodies.specs.declared.body.Shape.{Shape}
-use Rattle.bodies.specs.declared.body.Shape.TheVariants as shape
 use Rattle.bodies.specs.declared.body.Parsed.{Parsed}
 use Rattle.bodies.specs.declared.body.Parsed.TheVariants as parsed
 use Rattle.bodies.specs.declared.body.RefusedBody.{RefusedBody}
@@ -58,10 +59,13 @@ shape_in rule s i =
     (offending (length s) (forms rule) (placed i (drop i s)))
     (started (start_of (length s) (drop 1 (placed i (drop i s)))) (read_shape rule (fields (drop i s))))
 
--- what was read for an SN or an LN, with the texts that stand in the step
+-- the data that were read for an SN or an LN, with the texts that stand in the step
+abbrev pub given_with : Bool → Step → DataRead → Payload
+given_with store s (read.Numbers r) = given store r
+given_with store s read.Texts = payload.Texts s
+
 abbrev pub shape_of : Bool → Step → Shape → ℕ × (Payload × ℕ)
-shape_of store s (shape.Of n r start) = (n, (given store r, start))
-shape_of store s (shape.Texts n start) = (n, (payload.Texts s, start))
+shape_of store s q = (q.number, (given_with store s q.data, q.start))
 
 -- what the reader of fields says
 abbrev pub shape_with : Bool → Step → Read Shape → Read (ℕ × (Payload × ℕ))

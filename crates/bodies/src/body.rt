@@ -22,16 +22,16 @@ use text::field::{At, Malformed};
 use text::put::{Cursor, put_byte};
 use text::whole::{put_shortest, read_whole};
 
-// What the fields after a name are: a number, numbers as data (zeros for an LN, which has none), and where the data start;
-// or a number, texts as data, which stand in the step that was lent, and where they start.
+// What the fields after a name are: a number, data (zeros for an LN, which has none), and where the data start.
 #[derive(Clone, Copy)]
-pub enum Shape {
-    Of(u16, Row, usize),
-    Texts(u16, usize),
+pub struct Shape {
+    pub number: u16,
+    pub data: DataRead,
+    pub start: usize,
 }
 
-// What an accepted body asks for: a request; or that the step be stored under this number that stands in what the caller lends.
-// So no accepted request is copied with room for texts (docs/SPEED.md).
+// What an accepted body asks for: a request; or that a step be stored under this number, whose texts stand in a step that the
+// caller lends. So no accepted request is copied with room for them (docs/SPEED.md).
 #[derive(Clone, Copy)]
 pub enum Parsed {
     Request(Request),
@@ -59,16 +59,22 @@ fn read_shape(rule: Rule, from: At<'_>, step: &mut Step) -> Result<Shape, Malfor
                 position: number.end,
             });
         }
-        return Ok(Shape::Of(number.value, Row::from(0), number.end));
+        return Ok(Shape {
+            number: number.value,
+            data: DataRead::Numbers(Row::from(0)),
+            start: number.end,
+        });
     }
     let start = number.end + 1;
     if !rule.store {
         return Err(Malformed { position: start });
     }
-    match read_data(rule.form, At { text, index: start }, step)? {
-        DataRead::Numbers(row) => Ok(Shape::Of(number.value, row, start)),
-        DataRead::Texts => Ok(Shape::Texts(number.value, start)),
-    }
+    let data = read_data(rule.form, At { text, index: start }, step)?;
+    Ok(Shape {
+        number: number.value,
+        data,
+        start,
+    })
 }
 
 // Checks 11 and 12 of a command's number and of the numbers that are its data, which stand at these positions.
@@ -147,16 +153,26 @@ fn read_fields(from: At<'_>, step: &mut Step) -> Result<Parsed, RefusedBody>
         text,
         index: end + 1,
     };
-    match read_shape(rule, number, step) {
-        Ok(Shape::Of(n, row, datum)) => {
-            request_or_refusal(command, rule, n, row, number.index, datum)
+    let shape = match read_shape(rule, number, step) {
+        Ok(shape) => shape,
+        Err(malformed) => {
+            return Err(RefusedBody {
+                refusal: Refusal::Shape,
+                store: rule.store,
+                position: malformed.position,
+            });
         }
-        Ok(Shape::Texts(n, _)) => step_or_refusal(rule, n, number.index),
-        Err(malformed) => Err(RefusedBody {
-            refusal: Refusal::Shape,
-            store: rule.store,
-            position: malformed.position,
-        }),
+    };
+    match shape.data {
+        DataRead::Numbers(row) => request_or_refusal(
+            command,
+            rule,
+            shape.number,
+            row,
+            number.index,
+            shape.start,
+        ),
+        DataRead::Texts => step_or_refusal(rule, shape.number, number.index),
     }
 }
 

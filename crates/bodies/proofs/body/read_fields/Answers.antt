@@ -146,16 +146,16 @@ returns-then-end-text c =
 
 pub step_or_refusal-requires : goal.step_or_refusal-requires
 step_or_refusal-requires c =
-    c.rule_of-rule.ensures ∙ ap rule_of (stores_step c.args.from.text.now c.args.from.index c.args.from.in_bounds c.in-Some.ensures.name_value c.rule_of-rule.ensures c.if-end-text.false (rw c.in-Ok-Texts.field-0-is at c.in-Ok-Texts.ensures)).0
+    c.rule_of-rule.ensures ∙ ap rule_of (stores_step c.args.from.text.now c.args.from.index c.args.from.in_bounds c.in-Some.ensures.name_value c.rule_of-rule.ensures c.if-end-text.false (rw c.in-Texts.is at c.in-Ok.ensures)).0
 
-pub returns-in-Ok-Of : goal.returns-in-Ok-Of
-returns-in-Ok-Of c =
-    judged c.args.from.text.now c.args.from.index c.args.from.in_bounds c.in-Some.ensures.name_value c.rule_of-rule.ensures c.if-end-text.false (rw c.in-Ok-Of.field-0-is at c.in-Ok-Of.ensures) _ refl (λ z. refl) (c.request_or_refusal.ensures c.read_shape.new.step)
+pub returns-in-Numbers : goal.returns-in-Numbers
+returns-in-Numbers c =
+    judged c.args.from.text.now c.args.from.index c.args.from.in_bounds c.in-Some.ensures.name_value c.rule_of-rule.ensures c.if-end-text.false (rw c.in-Numbers.is at c.in-Ok.ensures) _ refl (λ z. refl) (c.request_or_refusal.ensures c.read_shape.new.step)
 
-pub returns-in-Ok-Texts : goal.returns-in-Ok-Texts
-returns-in-Ok-Texts c =
+pub returns-in-Texts : goal.returns-in-Texts
+returns-in-Texts c =
     let a = c.args.from in
-    let x = rw c.in-Ok-Texts.field-0-is at c.in-Ok-Texts.ensures in
+    let x = rw c.in-Texts.is at c.in-Ok.ensures in
     judged_step a.text.now a.index a.in_bounds c.in-Some.ensures.name_value c.rule_of-rule.ensures c.if-end-text.false x
     (c.step_or_refusal.ensures c.read_shape.new.step (stores_step a.text.now a.index a.in_bounds c.in-Some.ensures.name_value c.rule_of-rule.ensures c.if-end-text.false x).1)
 
