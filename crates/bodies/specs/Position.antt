@@ -87,4 +87,4 @@ request_with s (parsed.Step n) = request.Store (store.Step n s)
 
 abbrev pub judged_with : Step → Result Parsed RefusedBody → Judged × ℕ
 judged_with s (Ok p) = (Accepted (request_with s p), 0)
-judged_with s (Err r) = refused_at (number_of r.refusal) r.store r.position
+judged_with s (Err r) = refused_at (number_of r.refused.refusal) r.store r.refused.position

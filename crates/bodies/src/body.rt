@@ -16,7 +16,7 @@ use commands::table::{Rule, rule_of};
 use data::data::{DataRead, put_data, read_data};
 use data::ranges::{is_outside, judge_parts};
 use names::command::{Command, put_name, read_name};
-use refusals::refusal::Refusal;
+use refusals::refusal::{Refusal, Refused};
 use steps::step::Step;
 use text::field::{At, Malformed};
 use text::put::{Cursor, put_byte};
@@ -38,13 +38,21 @@ pub enum Parsed {
     Step(u16),
 }
 
-// Why a body is refused; whether it has an SN name, on which the form of its reply depends; and the position in the slice
-// where it is wrong.
+// Why a body is refused, and the position in the slice where it is wrong; and whether it has an SN name, on which the form of
+// its reply depends.
 #[derive(Clone, Copy)]
 pub struct RefusedBody {
-    pub refusal: Refusal,
+    pub refused: Refused,
     pub store: bool,
-    pub position: usize,
+}
+
+// The same without the form of a reply.
+impl From<RefusedBody> for Refused {
+    ghost from_gives = { λ body refused. refused ≡ body.refused };
+
+    fn from(body: RefusedBody) -> Refused {
+        body.refused
+    }
 }
 
 // Reads the fields from an index on, which are those after the name.
@@ -98,9 +106,8 @@ fn request_or_refusal(
             datum
         };
         return Err(RefusedBody {
-            refusal,
+            refused: Refused::at(refusal, position),
             store: rule.store,
-            position,
         });
     }
     let parts = Parts {
@@ -119,9 +126,8 @@ fn step_or_refusal(rule: Rule, n: u16, number: usize) -> Result<Parsed, RefusedB
 {
     if is_outside(rule, n) {
         return Err(RefusedBody {
-            refusal: Refusal::Number,
+            refused: Refused::at(Refusal::Number, number),
             store: true,
-            position: number,
         });
     }
     Ok(Parsed::Step(n))
@@ -134,9 +140,8 @@ fn read_fields(from: At<'_>, step: &mut Step) -> Result<Parsed, RefusedBody>
     let text = from.text;
     let Some(name) = read_name(&text[from.index..]) else {
         return Err(RefusedBody {
-            refusal: Refusal::Command,
+            refused: Refused::at(Refusal::Command, from.index),
             store: false,
-            position: from.index,
         });
     };
     let command = name.value;
@@ -144,9 +149,8 @@ fn read_fields(from: At<'_>, step: &mut Step) -> Result<Parsed, RefusedBody>
     let end = from.index + name.end;
     if end == text.len() {
         return Err(RefusedBody {
-            refusal: Refusal::Shape,
+            refused: Refused::at(Refusal::Shape, end),
             store: rule.store,
-            position: end,
         });
     }
     let number = At {
@@ -157,9 +161,8 @@ fn read_fields(from: At<'_>, step: &mut Step) -> Result<Parsed, RefusedBody>
         Ok(shape) => shape,
         Err(malformed) => {
             return Err(RefusedBody {
-                refusal: Refusal::Shape,
+                refused: Refused::at(Refusal::Shape, malformed.position),
                 store: rule.store,
-                position: malformed.position,
             });
         }
     };

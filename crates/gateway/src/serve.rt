@@ -12,7 +12,7 @@ ghost use Rattle.model.specs.Box.{box, has_room};
 ghost use Rattle.gateway.specs.Entries.{Served};
 ghost use Rattle.gateway.specs.Serving.{BodyServed, found_in, sent_of};
 
-use bodies::body::{Parsed, read_body};
+use bodies::body::{Parsed, RefusedBody, read_body};
 use commands::request::NO_STEP;
 use frame::reader::read_frame;
 use frame::writer::{close_frame, open_frame};
@@ -135,8 +135,8 @@ fn serve_body(
                 position: 0,
             }
         }
-        Err(refused) => {
-            let length = put_refused(reply, station, refused.refusal, refused.store);
+        Err(RefusedBody { refused, store }) => {
+            let length = put_refused(reply, station, refused.refusal, store);
             Sent {
                 number: refused.refusal.number(),
                 length,

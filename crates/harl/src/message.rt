@@ -64,13 +64,11 @@ pub fn read_request(slice: &[u8]) -> Result<Asked, Refused>
 {
     let frame = read_frame(slice)?;
     let mut step = NO_STEP;
-    match read_body(slice, frame.body, &mut step) {
-        Ok(parsed) => Ok(Asked {
-            station: frame.station,
-            request: request_with(step, parsed),
-        }),
-        Err(refused) => Err(Refused::at(refused.refusal, refused.position)),
-    }
+    let parsed = read_body(slice, frame.body, &mut step)?;
+    Ok(Asked {
+        station: frame.station,
+        request: request_with(step, parsed),
+    })
 }
 
 // Writes a request, and returns the length of its frame: checks 1, 7, 11 and 12.

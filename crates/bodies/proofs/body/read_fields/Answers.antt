@@ -138,11 +138,11 @@ module _ (s : List ℕ) (i : ℕ) where
 
 pub returns-in_default : goal.returns-in_default
 returns-in_default c =
-    unknown c.args.from.text.now c.args.from.index c.in_default.ensures.name_value
+    rw c.at.ensures (unknown c.args.from.text.now c.args.from.index c.in_default.ensures.name_value)
 
 pub returns-then-end-text : goal.returns-then-end-text
 returns-then-end-text c =
-    alone c.args.from.text.now c.args.from.index c.args.from.in_bounds c.in-Some.ensures.name_value c.rule_of-rule.ensures c.if-end-text.true
+    rw c.at-then-end-text.ensures (alone c.args.from.text.now c.args.from.index c.args.from.in_bounds c.in-Some.ensures.name_value c.rule_of-rule.ensures c.if-end-text.true)
 
 pub step_or_refusal-requires : goal.step_or_refusal-requires
 step_or_refusal-requires c =
@@ -161,4 +161,4 @@ returns-in-Texts c =
 
 pub returns-in-Err : goal.returns-in-Err
 returns-in-Err c =
-    misshapen c.args.from.text.now c.args.from.index c.args.from.in_bounds c.in-Some.ensures.name_value c.rule_of-rule.ensures c.if-end-text.false c.in-Err.ensures
+    rw c.at-in-Err.ensures (misshapen c.args.from.text.now c.args.from.index c.args.from.in_bounds c.in-Some.ensures.name_value c.rule_of-rule.ensures c.if-end-text.false c.in-Err.ensures)
