@@ -7,6 +7,7 @@ ghost use Rattle.readings.specs.declared.convert.Converted.TheVariants as conver
 
 use commands::request::{Parts, Payload, Row};
 use commands::table::{Form, rule_of};
+use harl::message::judge_station;
 use names::command::{COMMANDS, Command};
 use readings::convert::{Converted, Reading, convert};
 use readings::reply::read_converted;
@@ -56,9 +57,7 @@ fn read_coded(
     ensures { read_values result ≡ read_coded slice.now station code number values texts }
 {
     let Some(command) = command_at(code) else {
-        if station == 0 || 99 < station {
-            return Err(Refusal::Station.into());
-        }
+        judge_station(station)?;
         return Err(Refusal::Command.into());
     };
     let parts = Parts {
