@@ -12,13 +12,14 @@ use Rattle.commands.specs.declared.request.Payload.TheVariants as payload
 use Rattle.commands.specs.declared.request.Store.TheVariants as store
 use Rattle.commands.specs.declared.request.Request.{Request}
 use Rattle.commands.specs.declared.request.Request.TheVariants as request
-use Rattle.steps.specs.Step.{step_from}
+use Rattle.steps.specs.declared.step.Step.{Step}
 use Rattle.names.specs.Command.{command_of}
 use Rattle.commands.specs.Table.{rule_of}
 use Rattle.data.specs.Ranges.{outside}
+use Rattle.data.specs.declared.data.DataRead.{DataRead}
+use Rattle.data.specs.declared.data.DataRead.TheVariants as read
 use Rattle.data.specs.Data.{data_forms, data_ranges}
 use Rattle.bodies.specs.declared.body.Shape.{Shape}
-use Rattle.bodies.specs.declared.body.Shape.TheVariants as shape
 use Rattle.bodies.specs.declared.body.Parsed.{Parsed}
 use Rattle.bodies.specs.declared.body.Parsed.TheVariants as parsed
 use Rattle.bodies.specs.declared.body.RefusedBody.{RefusedBody}
@@ -58,15 +59,18 @@ shape_in rule s i =
     (offending (length s) (forms rule) (placed i (drop i s)))
     (started (start_of (length s) (drop 1 (placed i (drop i s)))) (read_shape rule (fields (drop i s))))
 
--- what was read for an SN or an LN, where these texts stand in the array
-abbrev pub shape_of : Bool → List ℕ → Shape → ℕ × (Payload × ℕ)
-shape_of store ts (shape.Of n r start) = (n, (given store r, start))
-shape_of store ts (shape.Texts n start) = (n, (payload.Texts (step_from ts), start))
+-- the data that were read for an SN or an LN, with the texts that stand in the step
+abbrev pub given_with : Bool → Step → DataRead → Payload
+given_with store s (read.Numbers r) = given store r
+given_with store s read.Texts = payload.Texts s
+
+abbrev pub shape_of : Bool → Step → Shape → ℕ × (Payload × ℕ)
+shape_of store s q = (q.number, (given_with store s q.data, q.start))
 
 -- what the reader of fields says
-abbrev pub shape_with : Bool → List ℕ → Read Shape → Read (ℕ × (Payload × ℕ))
-shape_with store ts (Ok q) = Ok (shape_of store ts q)
-shape_with store ts (Err m) = Err m
+abbrev pub shape_with : Bool → Step → Read Shape → Read (ℕ × (Payload × ℕ))
+shape_with store s (Ok q) = Ok (shape_of store s q)
+shape_with store s (Err m) = Err m
 
 -- a body, and the position where it is wrong
 abbrev pub refused_at : ℕ → Bool → ℕ → Judged × ℕ
@@ -76,11 +80,11 @@ abbrev pub judged_at : (ℕ → ℕ) → Judged → Judged × ℕ
 judged_at position (Accepted r) = (Accepted r, 0)
 judged_at position (Refused n store) = refused_at n store (position n)
 
--- what the reader of bodies says, where these texts stand in the array
-abbrev pub request_with : List ℕ → Parsed → Request
-request_with ts (parsed.Request r) = r
-request_with ts (parsed.Step n) = request.Store (store.Step n (step_from ts))
+-- what the reader of bodies says, with the texts that stand in the step
+abbrev pub request_with : Step → Parsed → Request
+request_with s (parsed.Request r) = r
+request_with s (parsed.Step n) = request.Store (store.Step n s)
 
-abbrev pub judged_with : List ℕ → Result Parsed RefusedBody → Judged × ℕ
-judged_with ts (Ok p) = (Accepted (request_with ts p), 0)
-judged_with ts (Err r) = refused_at (number_of r.refusal) r.store r.position
+abbrev pub judged_with : Step → Result Parsed RefusedBody → Judged × ℕ
+judged_with s (Ok p) = (Accepted (request_with s p), 0)
+judged_with s (Err r) = refused_at (number_of r.refused.refusal) r.store r.refused.position

@@ -1,9 +1,10 @@
 // The body of a request, read and written. Serving reads a body whose frame and station it has judged.
-ghost use Rattle.std.specs.Prelude.{◌≡◌, ◌≤◌, ◌+◌, true, cond, List, ℕ, eqb, length, drop};
+ghost use Rattle.std.specs.Prelude.{◌≡◌, ◌≤◌, ◌+◌, true, cond, eqb, length, drop};
 ghost use Rattle.text.specs.Put.{Put};
 ghost use Rattle.frame.specs.Fields.{placed};
 ghost use Rattle.frame.specs.Frame.{read_frame};
-ghost use Rattle.steps.specs.Step.{step_from, is_step};
+ghost use Rattle.steps.specs.declared.step.Step.{Step};
+ghost use Rattle.steps.specs.Step.{is_step};
 ghost use Rattle.names.specs.declared.command.Command.TheVariants.{Sna};
 ghost use Rattle.commands.specs.declared.request.Payload.TheVariants as payload;
 ghost use Rattle.commands.specs.Table.{rule_of};
@@ -15,40 +16,48 @@ use commands::table::{Rule, rule_of};
 use data::data::{DataRead, put_data, read_data};
 use data::ranges::{is_outside, judge_parts};
 use names::command::{Command, put_name, read_name};
-use refusals::refusal::Refusal;
+use refusals::refusal::{Refusal, Refused};
 use steps::step::Step;
 use text::field::{At, Malformed};
 use text::put::{Cursor, put_byte};
 use text::whole::{put_shortest, read_whole};
 
-// What the fields after a name are: a number, numbers as data (zeros for an LN, which has none), and where the data start;
-// or a number, texts as data, which stand in the array that was lent, and where they start.
+// What the fields after a name are: a number, data (zeros for an LN, which has none), and where the data start.
 #[derive(Clone, Copy)]
-pub enum Shape {
-    Of(u16, Row, usize),
-    Texts(u16, usize),
+pub struct Shape {
+    pub number: u16,
+    pub data: DataRead,
+    pub start: usize,
 }
 
-// What an accepted body asks for: a request; or that the step of this number be stored, whose texts stand in the array that
-// was lent. So no accepted request is copied with room for them (docs/SPEED.md).
+// What an accepted body asks for: a request; or that a step be stored under this number, whose texts stand in a step that the
+// caller lends. So no accepted request is copied with room for them (docs/SPEED.md).
 #[derive(Clone, Copy)]
 pub enum Parsed {
     Request(Request),
     Step(u16),
 }
 
-// Why a body is refused; whether it has an SN name, on which the form of its reply depends; and the position in the slice
-// where it is wrong.
+// Why a body is refused, and the position in the slice where it is wrong; and whether it has an SN name, on which the form of
+// its reply depends.
 #[derive(Clone, Copy)]
 pub struct RefusedBody {
-    pub refusal: Refusal,
+    pub refused: Refused,
     pub store: bool,
-    pub position: usize,
+}
+
+// The same without the form of a reply.
+impl From<RefusedBody> for Refused {
+    ghost from_gives = { λ body refused. refused ≡ body.refused };
+
+    fn from(body: RefusedBody) -> Refused {
+        body.refused
+    }
 }
 
 // Reads the fields from an index on, which are those after the name.
-fn read_shape(rule: Rule, from: At<'_>, texts: &mut [u64; 5]) -> Result<Shape, Malformed>
-    ensures { shape_with rule.store texts.new result ≡ shape_in rule from.entry.text.now from.entry.index }
+fn read_shape(rule: Rule, from: At<'_>, step: &mut Step) -> Result<Shape, Malformed>
+    ensures { shape_with rule.store step.new result ≡ shape_in rule from.entry.text.now from.entry.index }
 {
     let text = from.text;
     let number = read_whole(from)?;
@@ -58,16 +67,22 @@ fn read_shape(rule: Rule, from: At<'_>, texts: &mut [u64; 5]) -> Result<Shape, M
                 position: number.end,
             });
         }
-        return Ok(Shape::Of(number.value, Row::from(0), number.end));
+        return Ok(Shape {
+            number: number.value,
+            data: DataRead::Numbers(Row::from(0)),
+            start: number.end,
+        });
     }
     let start = number.end + 1;
     if !rule.store {
         return Err(Malformed { position: start });
     }
-    match read_data(rule.form, At { text, index: start }, texts)? {
-        DataRead::Numbers(row) => Ok(Shape::Of(number.value, row, start)),
-        DataRead::Texts => Ok(Shape::Texts(number.value, start)),
-    }
+    let data = read_data(rule.form, At { text, index: start }, step)?;
+    Ok(Shape {
+        number: number.value,
+        data,
+        start,
+    })
 }
 
 // Checks 11 and 12 of a command's number and of the numbers that are its data, which stand at these positions.
@@ -81,7 +96,7 @@ fn request_or_refusal(
     datum: usize,
 ) -> Result<Parsed, RefusedBody>
     requires { rule ≡ rule_of command }
-    ensures { (ts : List ℕ) → judged_with ts result ≡ judged_at (λ m. cond (eqb m 11) number datum) (request_or_refusal command n (given rule.store row)) }
+    ensures { (s : Step) → judged_with s result ≡ judged_at (λ m. cond (eqb m 11) number datum) (request_or_refusal command n (given rule.store row)) }
 {
     let payload = Payload::Numbers(row);
     if let Err(refusal) = judge_parts(rule, n, payload) {
@@ -91,9 +106,8 @@ fn request_or_refusal(
             datum
         };
         return Err(RefusedBody {
-            refusal,
+            refused: Refused::at(refusal, position),
             store: rule.store,
-            position,
         });
     }
     let parts = Parts {
@@ -108,28 +122,26 @@ fn request_or_refusal(
 #[tactic(auto, unfolding(crate::specs::Body::request_or_refusal, data::specs::Ranges::judge))]
 fn step_or_refusal(rule: Rule, n: u16, number: usize) -> Result<Parsed, RefusedBody>
     requires { rule ≡ rule_of Sna }
-    ensures { (ts : List ℕ) → is_step (step_from ts) ≡ true → judged_with ts result ≡ judged_at (λ m. number) (request_or_refusal Sna n (payload.Texts (step_from ts))) }
+    ensures { (s : Step) → is_step s ≡ true → judged_with s result ≡ judged_at (λ m. number) (request_or_refusal Sna n (payload.Texts s)) }
 {
     if is_outside(rule, n) {
         return Err(RefusedBody {
-            refusal: Refusal::Number,
+            refused: Refused::at(Refusal::Number, number),
             store: true,
-            position: number,
         });
     }
     Ok(Parsed::Step(n))
 }
 
 // Reads the fields from an index on as a request: checks 9 to 12, in their order.
-fn read_fields(from: At<'_>, texts: &mut [u64; 5]) -> Result<Parsed, RefusedBody>
-    ensures { judged_with texts.new result ≡ judged_at (fields_position (length from.entry.text.now) (placed from.entry.index (drop from.entry.index from.entry.text.now))) (read_body (drop from.entry.index from.entry.text.now)) }
+fn read_fields(from: At<'_>, step: &mut Step) -> Result<Parsed, RefusedBody>
+    ensures { judged_with step.new result ≡ judged_at (fields_position (length from.entry.text.now) (placed from.entry.index (drop from.entry.index from.entry.text.now))) (read_body (drop from.entry.index from.entry.text.now)) }
 {
     let text = from.text;
     let Some(name) = read_name(&text[from.index..]) else {
         return Err(RefusedBody {
-            refusal: Refusal::Command,
+            refused: Refused::at(Refusal::Command, from.index),
             store: false,
-            position: from.index,
         });
     };
     let command = name.value;
@@ -137,48 +149,56 @@ fn read_fields(from: At<'_>, texts: &mut [u64; 5]) -> Result<Parsed, RefusedBody
     let end = from.index + name.end;
     if end == text.len() {
         return Err(RefusedBody {
-            refusal: Refusal::Shape,
+            refused: Refused::at(Refusal::Shape, end),
             store: rule.store,
-            position: end,
         });
     }
     let number = At {
         text,
         index: end + 1,
     };
-    match read_shape(rule, number, texts) {
-        Ok(Shape::Of(n, row, datum)) => {
-            request_or_refusal(command, rule, n, row, number.index, datum)
+    let shape = match read_shape(rule, number, step) {
+        Ok(shape) => shape,
+        Err(malformed) => {
+            return Err(RefusedBody {
+                refused: Refused::at(Refusal::Shape, malformed.position),
+                store: rule.store,
+            });
         }
-        Ok(Shape::Texts(n, _)) => step_or_refusal(rule, n, number.index),
-        Err(malformed) => Err(RefusedBody {
-            refusal: Refusal::Shape,
-            store: rule.store,
-            position: malformed.position,
-        }),
+    };
+    match shape.data {
+        DataRead::Numbers(row) => request_or_refusal(
+            command,
+            rule,
+            shape.number,
+            row,
+            number.index,
+            shape.start,
+        ),
+        DataRead::Texts => step_or_refusal(rule, shape.number, number.index),
     }
 }
 
 // Reads the body of an accepted frame, which stands before the slice's last two bytes: checks 9 to 12, in their order.
-pub fn read_body(slice: &[u8], body: &[u8], texts: &mut [u64; 5]) -> Result<Parsed, RefusedBody>
+pub fn read_body(slice: &[u8], body: &[u8], step: &mut Step) -> Result<Parsed, RefusedBody>
     requires { ((read_frame slice.now).number ≡ 0) × (body.now ≡ (read_frame slice.now).body) }
-    ensures { judged_with texts.new result ≡ judged_at (body_position slice.now) (read_body (read_frame slice.now).body) }
+    ensures { judged_with step.new result ≡ judged_at (body_position slice.now) (read_body (read_frame slice.now).body) }
 {
     let etx = slice.len() - 2;
     let from = At {
         text: &slice[..etx],
         index: etx - body.len(),
     };
-    read_fields(from, texts)
+    read_fields(from, step)
 }
 
-// The request that an accepted body is, with these texts in the array.
-pub fn request_with(texts: [u64; 5], parsed: Parsed) -> Request
-    ensures { result ≡ request_with texts parsed }
+// The request that an accepted body is, with the texts of this step.
+pub fn request_with(step: Step, parsed: Parsed) -> Request
+    ensures { result ≡ request_with step parsed }
 {
     match parsed {
         Parsed::Request(request) => request,
-        Parsed::Step(n) => Request::Store(Store::Step(n, Step::from(texts))),
+        Parsed::Step(n) => Request::Store(Store::Step(n, step)),
     }
 }
 

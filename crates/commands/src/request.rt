@@ -123,7 +123,7 @@ pub fn row_in(payload: Payload) -> Row
 }
 
 // A step without a text.
-const NO_STEP: Step = Step {
+pub const NO_STEP: Step = Step {
     command: Text(0),
     first: Text(0),
     second: Text(0),

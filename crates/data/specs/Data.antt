@@ -2,7 +2,8 @@
 use Rattle.std.specs.Prelude.{ℕ, Bool, List, length, drop, Option, option_map, Ok, Err}
 use Rattle.frame.specs.Fields.{fields, placed, offending}
 use Rattle.text.specs.Read.{Read, read_at}
-use Rattle.steps.specs.Step.{step_from, read_step, step_forms, step_text}
+use Rattle.steps.specs.declared.step.Step.{Step}
+use Rattle.steps.specs.Step.{read_step, step_forms, step_text}
 use Rattle.commands.specs.declared.table.Form.{Form}
 use Rattle.commands.specs.declared.table.Form.TheVariants.{Numbers, Texts}
 use Rattle.commands.specs.declared.request.Payload.{Payload}
@@ -31,15 +32,15 @@ data_ranges Texts = step_forms
 abbrev pub data_in : Form → List ℕ → ℕ → Read Payload
 data_in f s i = read_at (offending (length s) (data_forms f) (placed i (drop i s))) (read_data f (fields (drop i s)))
 
--- what was read, where these texts stand in the array
-abbrev pub payload_with : List ℕ → DataRead → Payload
-payload_with ts (read.Numbers r) = payload.Numbers r
-payload_with ts read.Texts = payload.Texts (step_from ts)
+-- what was read, with the texts that stand in the step
+abbrev pub payload_with : Step → DataRead → Payload
+payload_with s (read.Numbers r) = payload.Numbers r
+payload_with s read.Texts = payload.Texts s
 
--- what the reader's answer says, where these texts stand in the array
-abbrev pub data_with : List ℕ → Read DataRead → Read Payload
-data_with ts (Ok d) = Ok (payload_with ts d)
-data_with ts (Err m) = Err m
+-- what the reader's answer says, with the texts that stand in the step
+abbrev pub data_with : Step → Read DataRead → Read Payload
+data_with s (Ok d) = Ok (payload_with s d)
+data_with s (Err m) = Err m
 
 -- the text of data
 abbrev pub data_text : Form → Payload → List ℕ

@@ -6,12 +6,12 @@ ghost use Rattle.data.specs.Data.{data_with, data_in, data_text};
 use commands::request::{Payload, Row, row_in, step_in};
 use commands::table::Form;
 use numbers::numbers::{put_numbers, read_numbers};
-use steps::step::{put_step, read_step};
+use steps::step::{Step, put_step, read_step};
 use text::field::{At, Malformed};
 use text::put::Cursor;
 
-// What fields are as data. Texts stand beside the enum, in an array that the caller lends, so that no numbers are copied with
-// room for them (docs/SPEED.md).
+// What fields are as data. Texts stand beside the enum, in a step that the caller lends, so that no numbers are copied with room
+// for them (docs/SPEED.md).
 #[derive(Clone, Copy)]
 pub enum DataRead {
     Numbers(Row),
@@ -20,13 +20,13 @@ pub enum DataRead {
 
 // Reads the fields from an index on as data of a form. Not data: at the first malformed field; if all are in their form, at
 // the first surplus field, or at the end of the text where fields lack.
-pub fn read_data(form: Form, from: At<'_>, texts: &mut [u64; 5]) -> Result<DataRead, Malformed>
-    ensures { data_with texts.new result ≡ data_in form from.entry.text.now from.entry.index }
+pub fn read_data(form: Form, from: At<'_>, step: &mut Step) -> Result<DataRead, Malformed>
+    ensures { data_with step.new result ≡ data_in form from.entry.text.now from.entry.index }
 {
     match form {
         Form::Numbers(kind) => Ok(DataRead::Numbers(read_numbers(kind, from)?)),
         Form::Texts => {
-            *texts = read_step(from)?.into();
+            *step = read_step(from)?;
             Ok(DataRead::Texts)
         }
     }

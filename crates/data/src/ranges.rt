@@ -1,40 +1,22 @@
 // The ranges of numbers and data.
 ghost use Rattle.std.specs.Prelude.{◌≡◌};
 ghost use Rattle.refusals.specs.Refusal.{refusal_number};
-ghost use Rattle.data.specs.Ranges.{row_in_range, step_in_range, in_ranges, outside, judge};
+ghost use Rattle.data.specs.Ranges.{in_ranges, outside, judge};
 
-use commands::request::{Payload, Row};
+use commands::request::Payload;
 use commands::table::{Form, Rule};
 use numbers::ranges::all_in_range;
 use refusals::refusal::Refusal;
-use steps::step::{Step, is_step};
-
-fn row_in_range(form: Form, row: Row) -> bool
-    ensures { result ≡ row_in_range form row }
-{
-    match form {
-        Form::Numbers(kind) => all_in_range(kind, row),
-        Form::Texts => false,
-    }
-}
-
-fn step_in_range(form: Form, step: Step) -> bool
-    ensures { result ≡ step_in_range form step }
-{
-    match form {
-        Form::Numbers(_) => false,
-        Form::Texts => is_step(step),
-    }
-}
+use steps::step::is_step;
 
 // Whether data are of a form and in its range.
 pub fn in_ranges(form: Form, payload: Payload) -> bool
     ensures { result ≡ in_ranges form payload }
 {
-    match payload {
-        Payload::None => false,
-        Payload::Numbers(row) => row_in_range(form, row),
-        Payload::Texts(step) => step_in_range(form, step),
+    match (form, payload) {
+        (Form::Numbers(kind), Payload::Numbers(row)) => all_in_range(kind, row),
+        (Form::Texts, Payload::Texts(step)) => is_step(step),
+        _ => false,
     }
 }
 

@@ -12,7 +12,8 @@ ghost use Rattle.model.specs.Box.{box, has_room};
 ghost use Rattle.gateway.specs.Entries.{Served};
 ghost use Rattle.gateway.specs.Serving.{BodyServed, found_in, sent_of};
 
-use bodies::body::{Parsed, read_body};
+use bodies::body::{Parsed, RefusedBody, read_body};
+use commands::request::NO_STEP;
 use frame::reader::read_frame;
 use frame::writer::{close_frame, open_frame};
 use harl::message::Sent;
@@ -84,24 +85,24 @@ fn put_refused(reply: &mut [u8], station: u8, refusal: Refusal, store: bool) -> 
     close_frame(reply, end)
 }
 
-// Performs an accepted body on the tables of slot's arm. A step is stored from the array in which its texts were read.
+// Performs an accepted body on the tables of slot's arm. A step is stored from where its texts were read.
 #[tactic(auto, unfolding(tables::specs::Tables::stored))]
 fn perform_parsed(
     arms: &mut Arms<'_>,
     programs: &mut Programs<'_>,
     slot: Slot,
-    texts: [u64; 5],
+    step: Step,
     parsed: Parsed,
 ) -> Outcome
-    requires { judge_request (request_with texts parsed) ≡ 0 }
-    ensures performed { Performed slot.index (request_with texts parsed) (tables_of arms.old programs.old.bytes.now) (tables_of arms.new programs.new.bytes.now) result }
+    requires { judge_request (request_with step parsed) ≡ 0 }
+    ensures performed { Performed slot.index (request_with step parsed) (tables_of arms.old programs.old.bytes.now) (tables_of arms.new programs.new.bytes.now) result }
     ensures same_tables { SameTables arms.old arms.new }
     ensures same_memory { programs.new.bytes.ghost_name ≡ programs.old.bytes.ghost_name }
 {
     match parsed {
         Parsed::Request(request) => arms.perform(programs, slot, request),
         Parsed::Step(n) => {
-            programs.store(slot, n as u8, Step::from(texts));
+            programs.store(slot, n as u8, step);
             Outcome::Status(0)
         }
     }
@@ -123,10 +124,10 @@ fn serve_body(
     ensures same_tables { SameTables arms.old arms.new }
     ensures same_memory { programs.new.bytes.ghost_name ≡ programs.old.bytes.ghost_name }
 {
-    let mut texts: [u64; 5] = [0; 5];
-    match read_body(slice, body, &mut texts) {
+    let mut step = NO_STEP;
+    match read_body(slice, body, &mut step) {
         Ok(parsed) => {
-            let outcome = perform_parsed(arms, programs, slot, texts, parsed);
+            let outcome = perform_parsed(arms, programs, slot, step, parsed);
             let length = put_reply(reply, station, outcome);
             Sent {
                 number: number_in(outcome),
@@ -134,8 +135,8 @@ fn serve_body(
                 position: 0,
             }
         }
-        Err(refused) => {
-            let length = put_refused(reply, station, refused.refusal, refused.store);
+        Err(RefusedBody { refused, store }) => {
+            let length = put_refused(reply, station, refused.refusal, store);
             Sent {
                 number: refused.refusal.number(),
                 length,

@@ -1,5 +1,5 @@
 -- Requests and replies as whole frames (document 01, "Refusal numbers, in the order checked").
-use Rattle.std.specs.Prelude.{ℕ, ◌≤◌, ◌≡◌, cond, ◌||◌, List, [], ltb, eqb, length, Option, None, Some, Result, Ok, Err}
+use Rattle.std.specs.Prelude.{ℕ, Bool, ◌≤◌, ◌≡◌, cond, ◌||◌, List, [], ltb, eqb, length, Option, None, Some, Result, Ok, Err}
 use Rattle.std.proofs.lemmas.List.Edits.{sets}
 use Rattle.frame.specs.Frame.{Reading, read_frame, frame_position, frame_of}
 use Rattle.commands.specs.declared.table.Rule.{Rule}
@@ -28,9 +28,17 @@ rule_for r = rule_of (parts_of r).command
 abbrev pub judge_request : Request → ℕ
 judge_request r = judge (rule_for r) (parts_of r).number (parts_of r).payload
 
+-- the stations are 1 to 99
+abbrev pub no_station : ℕ → Bool
+no_station station = eqb station 0 || ltb 99 station
+
+-- 7 STATION; 0 where it is not given
+abbrev pub judge_station : ℕ → ℕ
+judge_station station = cond (no_station station) 7 0
+
 -- 7 STATION, then those
 unfoldable pub judge_asked : ℕ → Request → ℕ
-judge_asked station r = cond (eqb station 0 || ltb 99 station) 7 (judge_request r)
+judge_asked station r = cond (no_station station) 7 (judge_request r)
 
 -- ---- reading a request: 2 to 7, then 9 to 12
 

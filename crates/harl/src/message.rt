@@ -2,10 +2,10 @@
 // reader hands back its number and position alone; a refused writer reports length 0 and leaves the area untouched.
 ghost use Rattle.std.specs.Prelude.{◌≡◌, length};
 ghost use Rattle.refusals.specs.Refusal.{number_of, refusal_number};
-ghost use Rattle.harl.specs.Message.{judge_asked, asked_values, read_request, write_request, write_reply, unsent, sent_by, Wrote, answered_values, read_reply};
+ghost use Rattle.harl.specs.Message.{judge_station, judge_asked, asked_values, read_request, write_request, write_reply, unsent, sent_by, Wrote, answered_values, read_reply};
 
 use bodies::body::{put_body, read_body, request_with};
-use commands::request::{Parts, Request};
+use commands::request::{NO_STEP, Parts, Request};
 use commands::table::rule_of;
 use data::ranges::judge_parts;
 use frame::reader::read_frame;
@@ -45,14 +45,22 @@ impl From<Refused> for Sent {
     }
 }
 
+// Check 7 of the station that a request is for.
+pub fn judge_station(station: u8) -> Result<(), Refusal>
+    ensures { refusal_number result ≡ judge_station station }
+{
+    if station == 0 || 99 < station {
+        return Err(Refusal::Station);
+    }
+    Ok(())
+}
+
 // Checks 7, 11 and 12 of a typed request, in that order.
 #[tactic(auto, unfolding(crate::specs::Message::judge_asked))]
 fn judge_asked(station: u8, request: Request) -> Result<(), Refusal>
     ensures { refusal_number result ≡ judge_asked station request }
 {
-    if station == 0 || 99 < station {
-        return Err(Refusal::Station);
-    }
+    judge_station(station)?;
     let parts = Parts::from(request);
     judge_parts(rule_of(parts.command), parts.number, parts.payload)
 }
@@ -63,14 +71,12 @@ pub fn read_request(slice: &[u8]) -> Result<Asked, Refused>
     ensures { asked_values result ≡ read_request slice.now }
 {
     let frame = read_frame(slice)?;
-    let mut texts: [u64; 5] = [0; 5];
-    match read_body(slice, frame.body, &mut texts) {
-        Ok(parsed) => Ok(Asked {
-            station: frame.station,
-            request: request_with(texts, parsed),
-        }),
-        Err(refused) => Err(Refused::at(refused.refusal, refused.position)),
-    }
+    let mut step = NO_STEP;
+    let parsed = read_body(slice, frame.body, &mut step)?;
+    Ok(Asked {
+        station: frame.station,
+        request: request_with(step, parsed),
+    })
 }
 
 // Writes a request, and returns the length of its frame: checks 1, 7, 11 and 12.

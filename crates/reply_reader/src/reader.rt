@@ -5,12 +5,11 @@ ghost use Rattle.commands.specs.declared.table.Form.TheVariants.{Texts};
 ghost use Rattle.data.specs.Data.{read_data};
 ghost use Rattle.reply_reader.specs.Reader.{numbers_of, data_of, read_status, read_content, as_data, read_load_outcome, read_outcome};
 
-use commands::request::{Payload, Row, row_in, step_in};
+use commands::request::{NO_STEP, Payload, Row, row_in, step_in};
 use commands::table::{Form, Kind, Rule};
 use data::data::{DataRead, read_data};
 use data::ranges::in_ranges;
 use replies::reply::{DONE, Data, Outcome, UNKNOWN};
-use steps::step::Step;
 use text::field::At;
 use text::whole::{read_digits, read_whole};
 
@@ -25,16 +24,6 @@ fn numbers_of(kind: Kind, row: Row) -> Data
         Kind::Row => Data::Row(row),
         Kind::Signal => Data::Signal(v),
         Kind::Port => Data::Port(v),
-    }
-}
-
-// The data of a form that answer a request for a number.
-fn data_of(form: Form, asked: u16, payload: Payload) -> Data
-    ensures { result ≡ data_of form asked payload }
-{
-    match form {
-        Form::Numbers(kind) => numbers_of(kind, row_in(payload)),
-        Form::Texts => Data::Step(asked, step_in(payload)),
     }
 }
 
@@ -55,56 +44,76 @@ fn read_status(s: &[u8]) -> Option<Outcome>
     Some(Outcome::Status(digits.value as u8))
 }
 
-// What a reply carries whose data were read: they must be in range.
-fn held_in(form: Form, asked: u16, payload: Payload) -> Option<Outcome>
-    ensures { result ≡ as_data form asked (Some payload) }
-{
-    if in_ranges(form, payload) {
-        return Some(Outcome::Data(data_of(form, asked, payload)));
-    }
-    None
+// The data that a reply to an LN may carry: of the form of its command, and a step under the number that was asked for.
+#[derive(Clone, Copy)]
+struct Expected {
+    form: Form,
+    asked: u16,
 }
 
-// Reads the fields of a body from an index on as data in range.
-fn read_content(form: Form, asked: u16, from: At<'_>) -> Option<Outcome>
-    ensures { result ≡ as_data form asked (read_data form (fields (drop from.entry.index from.entry.text.now))) }
-{
-    let mut texts: [u64; 5] = [0; 5];
-    match read_data(form, from, &mut texts) {
-        Ok(DataRead::Numbers(row)) => held_in(form, asked, Payload::Numbers(row)),
-        Ok(DataRead::Texts) => held_in(form, asked, Payload::Texts(Step::from(texts))),
-        Err(_) => None,
+impl Expected {
+    // The data that were read.
+    fn data_of(self, payload: Payload) -> Data
+        ensures { result ≡ data_of self.form self.asked payload }
+    {
+        match self.form {
+            Form::Numbers(kind) => numbers_of(kind, row_in(payload)),
+            Form::Texts => Data::Step(self.asked, step_in(payload)),
+        }
     }
-}
 
-// Reads the asked number, and a step after it.
-fn read_asked(asked: u16, body: &[u8]) -> Option<Outcome>
-    ensures { result ≡ as_data Texts asked (read_content Texts asked (fields body.now)) }
-{
-    let number = read_whole(At::front(body)).ok()?;
-    if number.value != asked || number.end == body.len() {
-        return None;
+    // What a reply carries whose data were read: they must be in range.
+    fn held_in(self, payload: Payload) -> Option<Outcome>
+        ensures { result ≡ as_data self.form self.asked (Some payload) }
+    {
+        if in_ranges(self.form, payload) {
+            return Some(Outcome::Data(self.data_of(payload)));
+        }
+        None
     }
-    let from = At {
-        text: body,
-        index: number.end + 1,
-    };
-    read_content(Form::Texts, asked, from)
-}
 
-// Reads the reply to an LN: "E" and a status, or data in range.
-fn read_load_outcome(form: Form, asked: u16, body: &[u8]) -> Option<Outcome>
-    ensures { result ≡ read_load_outcome form asked body.now }
-{
-    if body == UNKNOWN.as_slice() {
-        return Some(Outcome::Status(9));
+    // Reads the fields of a body from an index on as data in range.
+    fn read_content(self, from: At<'_>) -> Option<Outcome>
+        ensures { result ≡ as_data self.form self.asked (read_data self.form (fields (drop from.entry.index from.entry.text.now))) }
+    {
+        let mut step = NO_STEP;
+        match read_data(self.form, from, &mut step) {
+            Ok(DataRead::Numbers(row)) => self.held_in(Payload::Numbers(row)),
+            Ok(DataRead::Texts) => self.held_in(Payload::Texts(step)),
+            Err(_) => None,
+        }
     }
-    if let Some(status) = body.strip_prefix(b"E") {
-        return read_status(status);
+
+    // Reads the asked number, and a step after it.
+    fn read_asked(self, body: &[u8]) -> Option<Outcome>
+        requires { self.form ≡ Texts }
+        ensures { result ≡ as_data Texts self.asked (read_content Texts self.asked (fields body.now)) }
+    {
+        let number = read_whole(At::front(body)).ok()?;
+        if number.value != self.asked || number.end == body.len() {
+            return None;
+        }
+        let from = At {
+            text: body,
+            index: number.end + 1,
+        };
+        self.read_content(from)
     }
-    match form {
-        Form::Numbers(_) => read_content(form, asked, At::front(body)),
-        Form::Texts => read_asked(asked, body),
+
+    // Reads the body: "E" and a status, or data in range.
+    fn read(self, body: &[u8]) -> Option<Outcome>
+        ensures { result ≡ read_load_outcome self.form self.asked body.now }
+    {
+        if body == UNKNOWN.as_slice() {
+            return Some(Outcome::Status(9));
+        }
+        if let Some(status) = body.strip_prefix(b"E") {
+            return read_status(status);
+        }
+        match self.form {
+            Form::Numbers(_) => self.read_content(At::front(body)),
+            Form::Texts => self.read_asked(body),
+        }
     }
 }
 
@@ -115,5 +124,9 @@ pub fn read_outcome(rule: Rule, asked: u16, body: &[u8]) -> Option<Outcome>
     if rule.store {
         return read_status(body);
     }
-    read_load_outcome(rule.form, asked, body)
+    let expected = Expected {
+        form: rule.form,
+        asked,
+    };
+    expected.read(body)
 }

@@ -1,6 +1,6 @@
 -- A reply read for a program without typed values: its request by a code, a number and data, and what it carries by
 -- numbers.
-use Rattle.std.specs.Prelude.{ℕ, cond, ◌||◌, List, [], ◌∷◌, ℤ, ltb, eqb, slice_get, replicate, Float, Option, None, Some}
+use Rattle.std.specs.Prelude.{ℕ, cond, List, [], ◌∷◌, ℤ, eqb, slice_get, replicate, Float, Option, None, Some}
 use Rattle.names.specs.declared.command.Command.{Command}
 use Rattle.steps.specs.Step.{packed, step_from}
 use Rattle.commands.specs.declared.table.Form.{Form}
@@ -11,7 +11,7 @@ use Rattle.commands.specs.declared.request.Payload.TheVariants as payload
 use Rattle.names.specs.Command.{commands}
 use Rattle.commands.specs.Table.{rule_of}
 use Rattle.commands.specs.Request.{row_of, builds}
-use Rattle.harl.specs.Message.{read_reply}
+use Rattle.harl.specs.Message.{no_station, read_reply}
 use Rattle.replies.specs.declared.reply.Data.TheVariants as held
 use Rattle.replies.specs.declared.reply.Outcome.{Outcome}
 use Rattle.replies.specs.declared.reply.Outcome.TheVariants as outcome
@@ -40,7 +40,7 @@ command_at n = slice_get commands n
 -- 9 COMMAND for a code that is no command's, after 7 STATION
 abbrev pub read_as : List ℕ → ℕ → ℕ → List ℤ → List ℕ → Option Command → ConvertedReading
 read_as s station number values texts (Some c) = convertedReply (read_reply s station (builds c number (payload_for c values texts)))
-read_as s station number values texts None = refused (cond (eqb station 0 || ltb 99 station) 7 9) 0
+read_as s station number values texts None = refused (cond (no_station station) 7 9) 0
 
 -- the reply to the request of a code
 abbrev pub read_coded : List ℕ → ℕ → ℕ → ℕ → List ℤ → List ℕ → ConvertedReading

@@ -7,6 +7,7 @@ ghost use Rattle.readings.specs.declared.convert.Converted.TheVariants as conver
 
 use commands::request::{Parts, Payload, Row};
 use commands::table::{Form, rule_of};
+use harl::message::judge_station;
 use names::command::{COMMANDS, Command};
 use readings::convert::{Converted, Reading, convert};
 use readings::reply::read_converted;
@@ -14,9 +15,16 @@ use refusals::refusal::{Refusal, Refused};
 use replies::reply::{Data, Outcome};
 use steps::step::Step;
 
+// The kinds of what a reply carries, as C knows them.
+const NOTHING: u8 = 0;
+const SECONDS: u8 = 1;
+const MILLIMETRES: u8 = 2;
+const COUNT: u8 = 3;
+const STATUS: u8 = 4;
+const STEP: u8 = 5;
+
 // The number and the position of a refusal, 0 for none; the kind of what the reply carries; and the status, the doubles
-// and the texts, 0 for each that there is none. C knows a reply by these numbers alone. The kinds are 0 for nothing, 1 for
-// seconds, 2 for millimetres, 3 for a count, 4 for a status and 5 for a step.
+// and the texts, 0 for each that there is none. C knows a reply by these numbers alone.
 #[derive(Clone, Copy)]
 pub struct Numbers {
     pub number: u8,
@@ -56,9 +64,7 @@ fn read_coded(
     ensures { read_values result ≡ read_coded slice.now station code number values texts }
 {
     let Some(command) = command_at(code) else {
-        if station == 0 || 99 < station {
-            return Err(Refusal::Station.into());
-        }
+        judge_station(station)?;
         return Err(Refusal::Command.into());
     };
     let parts = Parts {
@@ -83,39 +89,45 @@ fn carried(kind: u8, status: u8, doubles: [f64; 4], texts: [u64; 5]) -> Numbers
     }
 }
 
-fn reading_numbers(reading: Reading) -> Numbers
-    ensures { result ≡ carried_by (converted.Reading reading) }
-{
-    match reading {
-        Reading::Seconds(d) => carried(1, 0, [d, 0.0, 0.0, 0.0], [0; 5]),
-        Reading::Millimetres(m) => carried(2, 0, [m.x, m.y, m.z, m.w], [0; 5]),
-        Reading::Count(d) => carried(3, 0, [d, 0.0, 0.0, 0.0], [0; 5]),
+impl From<Reading> for Numbers {
+    ghost from_gives = { λ reading numbers. numbers ≡ carried_by (converted.Reading reading) };
+
+    fn from(reading: Reading) -> Numbers {
+        match reading {
+            Reading::Seconds(d) => carried(SECONDS, 0, [d, 0.0, 0.0, 0.0], [0; 5]),
+            Reading::Millimetres(m) => carried(MILLIMETRES, 0, [m.x, m.y, m.z, m.w], [0; 5]),
+            Reading::Count(d) => carried(COUNT, 0, [d, 0.0, 0.0, 0.0], [0; 5]),
+        }
     }
 }
 
-fn converted_numbers(what: Converted) -> Numbers
-    ensures { result ≡ carried_by what }
-{
-    match what {
-        Converted::Reading(reading) => reading_numbers(reading),
-        Converted::Status(n) => carried(4, n, [0.0; 4], [0; 5]),
-        Converted::Step(_, step) => carried(5, 0, [0.0; 4], step.into()),
+impl From<Converted> for Numbers {
+    ghost from_gives = { λ what numbers. numbers ≡ carried_by what };
+
+    fn from(what: Converted) -> Numbers {
+        match what {
+            Converted::Reading(reading) => reading.into(),
+            Converted::Status(n) => carried(STATUS, n, [0.0; 4], [0; 5]),
+            Converted::Step(_, step) => carried(STEP, 0, [0.0; 4], step.into()),
+        }
     }
 }
 
-fn reply_numbers(reply: Result<Converted, Refused>) -> Numbers
-    ensures { result ≡ numbers_of (read_values reply) }
-{
-    match reply {
-        Ok(what) => converted_numbers(what),
-        Err(refused) => Numbers {
-            number: refused.refusal.number(),
-            position: refused.position,
-            kind: 0,
-            status: 0,
-            doubles: [0.0; 4],
-            texts: [0; 5],
-        },
+impl From<Result<Converted, Refused>> for Numbers {
+    ghost from_gives = { λ reply numbers. numbers ≡ numbers_of (read_values reply) };
+
+    fn from(reply: Result<Converted, Refused>) -> Numbers {
+        match reply {
+            Ok(what) => what.into(),
+            Err(refused) => Numbers {
+                number: refused.refusal.number(),
+                position: refused.position,
+                kind: NOTHING,
+                status: 0,
+                doubles: [0.0; 4],
+                texts: [0; 5],
+            },
+        }
     }
 }
 
@@ -131,7 +143,7 @@ pub fn read_doubles(
 ) -> Numbers
     ensures { result ≡ numbers_of (read_coded slice.now station code number values texts) }
 {
-    reply_numbers(read_coded(slice, station, code, number, values, texts))
+    read_coded(slice, station, code, number, values, texts).into()
 }
 
 // Data of a kind: a timer's hundredths for seconds, a row's for millimetres, a whole number for a count. Any other kind has
@@ -140,9 +152,9 @@ fn outcome_for(kind: u8, row: Row) -> Outcome
     ensures { result ≡ outcome_for kind row }
 {
     match kind {
-        1 => Outcome::Data(Data::Timer(row.x)),
-        2 => Outcome::Data(Data::Row(row)),
-        3 => Outcome::Data(Data::Register(row.x)),
+        SECONDS => Outcome::Data(Data::Timer(row.x)),
+        MILLIMETRES => Outcome::Data(Data::Row(row)),
+        COUNT => Outcome::Data(Data::Register(row.x)),
         _ => Outcome::Status(0),
     }
 }
@@ -152,5 +164,5 @@ fn outcome_for(kind: u8, row: Row) -> Outcome
 pub fn convert_values(kind: u8, values: [i32; 4]) -> [f64; 4]
     ensures { result ≡ doubles_for kind values }
 {
-    converted_numbers(convert(outcome_for(kind, values.into()))).doubles
+    Numbers::from(convert(outcome_for(kind, values.into()))).doubles
 }

@@ -138,27 +138,27 @@ module _ (s : List ℕ) (i : ℕ) where
 
 pub returns-in_default : goal.returns-in_default
 returns-in_default c =
-    unknown c.args.from.text.now c.args.from.index c.in_default.ensures.name_value
+    rw c.at.ensures (unknown c.args.from.text.now c.args.from.index c.in_default.ensures.name_value)
 
 pub returns-then-end-text : goal.returns-then-end-text
 returns-then-end-text c =
-    alone c.args.from.text.now c.args.from.index c.args.from.in_bounds c.in-Some.ensures.name_value c.rule_of-rule.ensures c.if-end-text.true
+    rw c.at-then-end-text.ensures (alone c.args.from.text.now c.args.from.index c.args.from.in_bounds c.in-Some.ensures.name_value c.rule_of-rule.ensures c.if-end-text.true)
 
 pub step_or_refusal-requires : goal.step_or_refusal-requires
 step_or_refusal-requires c =
-    c.rule_of-rule.ensures ∙ ap rule_of (stores_step c.args.from.text.now c.args.from.index c.args.from.in_bounds c.in-Some.ensures.name_value c.rule_of-rule.ensures c.if-end-text.false (rw c.in-Ok-Texts.field-0-is at c.in-Ok-Texts.ensures)).0
+    c.rule_of-rule.ensures ∙ ap rule_of (stores_step c.args.from.text.now c.args.from.index c.args.from.in_bounds c.in-Some.ensures.name_value c.rule_of-rule.ensures c.if-end-text.false (rw c.in-Texts.is at c.in-Ok.ensures)).0
 
-pub returns-in-Ok-Of : goal.returns-in-Ok-Of
-returns-in-Ok-Of c =
-    judged c.args.from.text.now c.args.from.index c.args.from.in_bounds c.in-Some.ensures.name_value c.rule_of-rule.ensures c.if-end-text.false (rw c.in-Ok-Of.field-0-is at c.in-Ok-Of.ensures) _ refl (λ z. refl) (c.request_or_refusal.ensures c.read_shape.new.texts)
+pub returns-in-Numbers : goal.returns-in-Numbers
+returns-in-Numbers c =
+    judged c.args.from.text.now c.args.from.index c.args.from.in_bounds c.in-Some.ensures.name_value c.rule_of-rule.ensures c.if-end-text.false (rw c.in-Numbers.is at c.in-Ok.ensures) _ refl (λ z. refl) (c.request_or_refusal.ensures c.read_shape.new.step)
 
-pub returns-in-Ok-Texts : goal.returns-in-Ok-Texts
-returns-in-Ok-Texts c =
+pub returns-in-Texts : goal.returns-in-Texts
+returns-in-Texts c =
     let a = c.args.from in
-    let x = rw c.in-Ok-Texts.field-0-is at c.in-Ok-Texts.ensures in
+    let x = rw c.in-Texts.is at c.in-Ok.ensures in
     judged_step a.text.now a.index a.in_bounds c.in-Some.ensures.name_value c.rule_of-rule.ensures c.if-end-text.false x
-    (c.step_or_refusal.ensures c.read_shape.new.texts (stores_step a.text.now a.index a.in_bounds c.in-Some.ensures.name_value c.rule_of-rule.ensures c.if-end-text.false x).1)
+    (c.step_or_refusal.ensures c.read_shape.new.step (stores_step a.text.now a.index a.in_bounds c.in-Some.ensures.name_value c.rule_of-rule.ensures c.if-end-text.false x).1)
 
 pub returns-in-Err : goal.returns-in-Err
 returns-in-Err c =
-    misshapen c.args.from.text.now c.args.from.index c.args.from.in_bounds c.in-Some.ensures.name_value c.rule_of-rule.ensures c.if-end-text.false c.in-Err.ensures
+    rw c.at-in-Err.ensures (misshapen c.args.from.text.now c.args.from.index c.args.from.in_bounds c.in-Some.ensures.name_value c.rule_of-rule.ensures c.if-end-text.false c.in-Err.ensures)

@@ -18,11 +18,13 @@ use Rattle.frame.proofs.Placed.{placed_texts, placed_only, placed_next, offendin
 use Rattle.commands.specs.declared.table.Rule.{Rule}
 use Rattle.commands.specs.declared.request.Row.{Row}
 use Rattle.commands.specs.declared.request.Payload.{Payload}
-use Rattle.commands.specs.declared.request.Payload.TheVariants as payload
-use Rattle.data.specs.Data.{read_data, data_forms, data_in}
+use Rattle.steps.specs.declared.step.Step.{Step}
+use Rattle.data.specs.declared.data.DataRead.{DataRead}
+use Rattle.data.specs.declared.data.DataRead.TheVariants as data_read
+use Rattle.data.specs.Data.{read_data, data_forms, data_in, payload_with}
 use Rattle.data.proofs.Texts.{no_fields}
 use Rattle.bodies.specs.Body.{data_shape, numbered, given, read_shape}
-use Rattle.bodies.specs.Position.{forms, started, shape_in}
+use Rattle.bodies.specs.Position.{forms, started, shape_in, given_with}
 use Rattle.bodies.proofs.body.read_shape.Goals as goal
 
 -- ---- the answer for a list of fields
@@ -89,8 +91,9 @@ module _ (rule : Rule) (s : List ℕ) (i : ℕ) where
       with_data : {p : Payload} → Ok p ≡ data_in rule.form s (number.end + 1) → Ok (number.value, (p, number.end + 1)) ≡ shape_in rule s i
       with_data d = sym (followed z ∙ rw (t, was_read _ (read_data rule.form (fields (drop (number.end + 1) s))) d))
 
-      with_numbers : {row : Row} → Ok (payload.Numbers row) ≡ data_in rule.form s (number.end + 1) → Ok (number.value, (given rule.store row, number.end + 1)) ≡ shape_in rule s i
-      with_numbers {row} d = ap (λ x. Ok (number.value, (given x row, number.end + 1))) t ∙ with_data d
+      with_read : (q : Step) (d : DataRead) → Ok (payload_with q d) ≡ data_in rule.form s (number.end + 1) → Ok (number.value, (given_with rule.store q d, number.end + 1)) ≡ shape_in rule s i
+      with_read q (data_read.Numbers r) d = ap (λ x. Ok (number.value, (given x r, number.end + 1))) t ∙ with_data d
+      with_read q data_read.Texts d = with_data d
 
       misshapen : {m : Malformed} → Err m ≡ data_in rule.form s (number.end + 1) → Err m ≡ shape_in rule s i
       misshapen d =
@@ -114,15 +117,11 @@ pub returns-then-not-rule : goal.returns-then-not-rule
 returns-then-not-rule c =
     surplus c.args.rule c.args.from.text.now c.args.from.index c.args.from.in_bounds c.in_ok-number.ensures.value (not-true _ c.if-not-rule.true) c.if-number-text.false
 
-pub returns-in_err-row : goal.returns-in_err-row
-returns-in_err-row c =
-    let p = err_from_is_err_and c.from_residual-in_err-row.result c.from_residual-in_err-row.ensures.1 in
-    rw (p.1, p.2) (misshapen c.args.rule c.args.from.text.now c.args.from.index c.args.from.in_bounds c.in_ok-number.ensures.value (not-false _ c.if-not-rule.false) c.if-number-text.false c.in_err-row.ensures)
+pub returns-in_err-data : goal.returns-in_err-data
+returns-in_err-data c =
+    let p = err_from_is_err_and c.from_residual-in_err-data.result c.from_residual-in_err-data.ensures.1 in
+    rw (p.1, p.2) (misshapen c.args.rule c.args.from.text.now c.args.from.index c.args.from.in_bounds c.in_ok-number.ensures.value (not-false _ c.if-not-rule.false) c.if-number-text.false c.in_err-data.ensures)
 
-pub returns-in-Numbers : goal.returns-in-Numbers
-returns-in-Numbers c =
-    with_numbers c.args.rule c.args.from.text.now c.args.from.index c.args.from.in_bounds c.in_ok-number.ensures.value (not-false _ c.if-not-rule.false) c.if-number-text.false (rw c.in-Numbers.is at c.in_ok-row.ensures)
-
-pub returns-in-Texts : goal.returns-in-Texts
-returns-in-Texts c =
-    with_data c.args.rule c.args.from.text.now c.args.from.index c.args.from.in_bounds c.in_ok-number.ensures.value (not-false _ c.if-not-rule.false) c.if-number-text.false (rw c.in-Texts.is at c.in_ok-row.ensures)
+pub returns : goal.returns
+returns c =
+    with_read c.args.rule c.args.from.text.now c.args.from.index c.args.from.in_bounds c.in_ok-number.ensures.value (not-false _ c.if-not-rule.false) c.if-number-text.false _ _ c.in_ok-data.ensures

@@ -11,7 +11,7 @@ use Rattle.commands.specs.declared.table.Form.{Form}
 use Rattle.replies.specs.declared.reply.Outcome.TheVariants as outcome
 use Rattle.replies.specs.Reply.{unknown_text}
 use Rattle.reply_reader.specs.Reader.{read_status, read_load_outcome}
-use Rattle.reply_reader.proofs.reader.read_load_outcome.Goals as goal
+use Rattle.reply_reader.proofs.reader.Expected.read.Goals as goal
 
 -- "E09" is the status 9
 unknown : (f : Form) (asked : ℕ) → read_load_outcome f asked unknown_text ≡ Some (outcome.Status 9)
@@ -29,7 +29,7 @@ first_e (b ∷ s) h = go (eqb b 69) h
 
 pub returns-then-eq : goal.returns-then-eq
 returns-then-eq c =
-    sym (ap (read_load_outcome c.args.form c.args.asked) ((bytes_decides c.args.body.now _).0 (sym c.eq.ensures ∙ c.if-eq.true) ∙ c.as_slice.ensures) ∙ unknown c.args.form c.args.asked)
+    sym (ap (read_load_outcome c.args.self.form c.args.self.asked) ((bytes_decides c.args.body.now _).0 (sym c.eq.ensures ∙ c.if-eq.true) ∙ c.as_slice.ensures) ∙ unknown c.args.self.form c.args.self.asked)
 
 pub returns-in-Some : goal.returns-in-Some
 unfolding read_load_outcome

@@ -20,7 +20,7 @@ use Rattle.replies.specs.declared.reply.Outcome.{Outcome}
 use Rattle.data.specs.Data.{read_data}
 use Rattle.data.proofs.Texts.{no_fields}
 use Rattle.reply_reader.specs.Reader.{read_content, as_data}
-use Rattle.reply_reader.proofs.reader.read_asked.Goals as goal
+use Rattle.reply_reader.proofs.reader.Expected.read_asked.Goals as goal
 
 -- an answer without its position, and with it again
 without : {A : Type 0} (at : ℕ) (o : Option A) → result_ok (read_at at o) ≡ o
@@ -71,14 +71,14 @@ module _ (asked : ℕ) (s : List ℕ) where
 pub returns-in_err-number : goal.returns-in_err-number
 unfolding promised
 returns-in_err-number c =
-    c.from_residual.ensures ∙ unread c.args.asked c.args.body.now (rw (c.read_whole.ensures.value, c.front.ensures.text, c.front.ensures.first) at c.in_err-number.ensures.value)
+    c.from_residual.ensures ∙ unread c.args.self.asked c.args.body.now (rw (c.read_whole.ensures.value, c.front.ensures.text, c.front.ensures.first) at c.in_err-number.ensures.value)
 
-pub returns-then-number-asked : goal.returns-then-number-asked
+pub returns-then-number-self : goal.returns-then-number-self
 unfolding promised
-returns-then-number-asked c =
-    refused c.args.asked c.args.body.now (rw (c.read_whole.ensures.value, c.front.ensures.text, c.front.ensures.first) at c.in_ok-number.ensures.value) c.then-number-asked.either
+returns-then-number-self c =
+    refused c.args.self.asked c.args.body.now (rw (c.read_whole.ensures.value, c.front.ensures.text, c.front.ensures.first) at c.in_ok-number.ensures.value) c.then-number-self.either
 
 pub returns : goal.returns
 unfolding promised
 returns c =
-    c.read_content.ensures ∙ sym (followed c.args.asked c.args.body.now (rw (c.read_whole.ensures.value, c.front.ensures.text, c.front.ensures.first) at c.in_ok-number.ensures.value) c.if-number-asked.false c.if-number-body.false)
+    (rw c.requires at c.read_content.ensures) ∙ sym (followed c.args.self.asked c.args.body.now (rw (c.read_whole.ensures.value, c.front.ensures.text, c.front.ensures.first) at c.in_ok-number.ensures.value) c.if-number-self.false c.if-number-body.false)
