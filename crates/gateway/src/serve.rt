@@ -1,6 +1,5 @@
 // Serving: a slice judged, performed on the arm that it addresses, and answered.
 ghost use Rattle.std.specs.Prelude.{◌≡◌, ◌≤◌, length, option_map};
-ghost use Rattle.refusals.specs.Refusal.{number_of};
 ghost use Rattle.text.specs.Put.{PutAt};
 ghost use Rattle.frame.specs.Frame.{read_frame, frame_of};
 ghost use Rattle.replies.specs.Reply.{performed_text, refusal_text};
@@ -74,14 +73,15 @@ fn put_reply(reply: &mut [u8], station: u8, outcome: Outcome) -> usize
     close_frame(reply, end)
 }
 
-// Writes the reply to a refused request.
+// Writes the reply to a refused request. Here as in every function below, the room for a reply is a clause: of a type that held it,
+// each would have to promise that it is still the caller's area.
 #[tactic(auto, using(frame::proofs::Writing::opening_length, text::proofs::Digits::shortest_short, replies::proofs::Texts::refusal_length))]
-fn put_refused(reply: &mut [u8], station: u8, refusal: Refusal, store: bool) -> usize
+fn put_refused(reply: &mut [u8], station: u8, number: u8, store: bool) -> usize
     requires { 64 ≤ length reply.old }
-    ensures { PutAt reply.old 0 (frame_of station (refusal_text (number_of refusal) store)) result reply.new }
+    ensures { PutAt reply.old 0 (frame_of station (refusal_text number store)) result reply.new }
 {
     let at = open_frame(reply, station);
-    let end = put_refusal(reply, at, refusal, store);
+    let end = put_refusal(reply, at, number, store);
     close_frame(reply, end)
 }
 
@@ -136,9 +136,10 @@ fn serve_body(
             }
         }
         Err(RefusedBody { refused, store }) => {
-            let length = put_refused(reply, station, refused.refusal, store);
+            let number = refused.refusal.number();
+            let length = put_refused(reply, station, number, store);
             Sent {
-                number: refused.refusal.number(),
+                number,
                 length,
                 position: refused.position,
             }

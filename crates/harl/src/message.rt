@@ -22,8 +22,8 @@ pub struct Asked {
     pub request: Request,
 }
 
-// What serving returns: the number of the refusal, or 0; the length of the reply, which a refusal may have too; and for a
-// refused slice the position where it is wrong, 0 where there is none to tell. C is given it as it stands.
+// What serving returns: the number of the refusal, or 0; the length of the reply; and for a refused slice the position where it
+// is wrong, 0 where there is none to tell. A refusal may have a reply, so that this is no Result. C is given it as it stands.
 #[repr(C)]
 #[derive(Clone, Copy)]
 pub struct Sent {
@@ -32,16 +32,22 @@ pub struct Sent {
     pub position: usize,
 }
 
-// A refusal without a reply.
+// A refusal without a reply, by any number.
+pub fn refusal(number: u8, position: usize) -> Sent
+    ensures { result ≡ unsent number position }
+{
+    Sent {
+        number,
+        length: 0,
+        position,
+    }
+}
+
 impl From<Refused> for Sent {
     ghost from_gives = { λ refused sent. sent ≡ unsent (number_of refused.refusal) refused.position };
 
     fn from(refused: Refused) -> Sent {
-        Sent {
-            number: refused.refusal.number(),
-            length: 0,
-            position: refused.position,
-        }
+        refusal(refused.refusal.number(), refused.position)
     }
 }
 

@@ -66,4 +66,4 @@ returns-in-Ok-clause-served c =
 
 pub returns-in-Err-clause-served : goal.returns-in-Err-clause-served
 returns-in-Err-clause-served c =
-    refused_served c.requires.room (refused_as (body_position c.args.slice.now) _ c.in-Err.ensures) c.number.ensures c.put_refused-length.ensures
+    refused_served c.requires.room (refused_as (body_position c.args.slice.now) _ c.in-Err.ensures) c.number-number.ensures (rw c.number-number.ensures at c.put_refused-length.ensures)
