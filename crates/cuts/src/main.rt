@@ -8,12 +8,11 @@ ghost use Rattle.std.specs.Prelude.{◌≡◌, ◌<◌, ◌≤◌, length};
 use print::{STDIN_FILENO, front, put, put_bytes, put_whole};
 use receiver::receive::Receiver;
 
-// What a call came to: where the bytes that are left begin, and the length of the slice that was finished, 0 for
-// none.
+// What a call came to: where the bytes that are left begin, and the length of the slice that was finished.
 #[derive(Clone, Copy)]
 struct Turn {
     next: usize,
-    length: usize,
+    slice: Option<usize>,
 }
 
 // One call on the bytes from i on.
@@ -21,20 +20,21 @@ fn take_turn(receiver: &mut Receiver<'_>, arrived: &[u8], i: usize, area: &mut [
     requires { i < length arrived.now }
     ensures { (i < result.next) × (result.next ≤ length arrived.now) }
 {
-    let r = receiver.receive(&arrived[i..], area);
+    let Ok(got) = receiver.receive(&arrived[i..], area) else {
+        unreachable!()
+    };
     Turn {
-        next: i + r.taken,
-        length: r.length,
+        next: i + got.taken,
+        slice: got.slice,
     }
 }
 
 // Prints a slice that was finished, on a line.
-fn put_found(area: &[u8; 255], length: usize) {
-    if length == 0 {
-        return;
+fn put_found(area: &[u8; 255], slice: Option<usize>) {
+    if let Some(length) = slice {
+        put_bytes(front(area, length));
+        put(b"\n");
     }
-    put_bytes(front(area, length));
-    put(b"\n");
 }
 
 // Prints the slices of an arrival.
@@ -45,7 +45,7 @@ fn put_slices(receiver: &mut Receiver<'_>, arrived: &[u8]) {
     while i < arrived.len() {
         let t = take_turn(receiver, arrived, i, &mut area);
         i = t.next;
-        put_found(&area, t.length);
+        put_found(&area, t.slice);
     }
 }
 
@@ -125,7 +125,7 @@ fn slices_of(receiver: &mut Receiver<'_>, arrived: &[u8]) -> usize
     while i < arrived.len() {
         let t = take_turn(receiver, arrived, i, &mut area);
         i = t.next;
-        if t.length != 0 {
+        if t.slice.is_some() {
             slices += 1;
         }
     }
@@ -152,20 +152,26 @@ fn put_feed(feed: Feed) {
     put(b"\n");
 }
 
-// A call by hand, with an area of `room` bytes: its number, what it took, the length of its slice, and the count that
-// it left.
+// A call by hand, with an area of `room` bytes: its number, what it took, the length of its slice, 0 for none, and the
+// count that it left.
 fn put_call(held: &mut [u8; 255], count: &mut u8, arrived: &[u8], room: usize)
     requires { room ≤ 300 }
 {
     let mut area = [0u8; 300];
     let mut receiver = Receiver { held, count };
-    let r = receiver.receive(arrived, &mut area[..room]);
     put(b"call ");
-    put_whole(r.number as u64);
-    put(b" ");
-    put_whole(r.taken as u64);
-    put(b" ");
-    put_whole(r.length as u64);
+    match receiver.receive(arrived, &mut area[..room]) {
+        Ok(got) => {
+            put(b"0 ");
+            put_whole(got.taken as u64);
+            put(b" ");
+            put_whole(got.slice.unwrap_or(0) as u64);
+        }
+        Err(refusal) => {
+            put_whole(refusal.number() as u64);
+            put(b" 0 0");
+        }
+    }
     put(b" ");
     put_whole(*receiver.count as u64);
     put(b"\n");

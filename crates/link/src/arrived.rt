@@ -34,15 +34,17 @@ fn serve_next(
     ensures same_tables { SameTables arms.old arms.new }
     ensures same_state { SameState receiver.old receiver.new }
 {
+    // Room for any slice, so that no call is refused.
     let mut slice = [0u8; 255];
-    let got = receiver.receive(arrived, &mut slice);
-    let n = got.length;
-    if n == 0 {
+    let Ok(got) = receiver.receive(arrived, &mut slice) else {
+        unreachable!()
+    };
+    let Some(n) = got.slice else {
         return Part {
             taken: got.taken,
             at,
         };
-    }
+    };
     let end = at + 64;
     let sent = serve(arms, programs, stations, &slice[..n], &mut out[at..end]);
     Part {

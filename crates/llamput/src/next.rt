@@ -51,5 +51,5 @@ pub fn llamput_serve_next<'a>(
         bytes: b,
         waiting: waiting_b,
     };
-    hosts::next::serve_next(&mut arms, programs, stations, turn, a, b, reply)
+    hosts::next::serve_next(&mut arms, programs, stations, turn, a, b, reply).into()
 }

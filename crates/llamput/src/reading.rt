@@ -5,8 +5,8 @@ ghost use Rattle.llamput.specs.Reading.{Told};
 
 use untyped::read::{convert_values, read_doubles};
 
-// What reading a reply comes to: the refusal number, or 0; the status that the reply carries, 0 where it carries none; and
-// the position of a refusal.
+// What reading a reply comes to, as C is given it, by numbers: the refusal number, or 0; the status that the reply carries, 0
+// where it carries none; and the position of a refusal.
 #[repr(C)]
 #[derive(Clone, Copy)]
 pub struct Reply {

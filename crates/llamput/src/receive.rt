@@ -14,5 +14,5 @@ pub fn llamput_receive(
     ensures { Received (received held.old count.old arrived.now (length area.old)) area.old result held.new count.new area.new }
 {
     let mut receiver = Receiver { held, count };
-    receiver.receive(arrived, area)
+    receiver.receive(arrived, area).into()
 }

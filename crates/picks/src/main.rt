@@ -75,12 +75,20 @@ fn serve_ports(
     let second = read_buffer(line, 3, &mut b);
     let mut area = [0xaa; 99];
     let reply = area_of(&mut area, number(line, 5) as usize);
-    let next = serve_next(arms, programs, stations, turn, first, second, reply);
-    let sent = next.sent;
-    put_port(next.port);
-    put_written(sent.number, sent.length, b", no reply", reply);
-    put(b" @");
-    put_whole(sent.position as u64);
+    match serve_next(arms, programs, stations, turn, first, second, reply) {
+        Ok(served) => {
+            let sent = served.sent;
+            put_port(served.port.number());
+            put_written(sent.number, sent.length, b", no reply", reply);
+            put(b" @");
+            put_whole(sent.position as u64);
+        }
+        Err(refusal) => {
+            put_port(0);
+            put_written(refusal.number(), 0, b", no reply", reply);
+            put(b" @0");
+        }
+    }
 }
 
 // Picks the next slice, and prints it.

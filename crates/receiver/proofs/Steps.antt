@@ -114,11 +114,11 @@ pub standing_is : (n : ℕ) → n < 255 → standing n ≡ n
 unfolding standing
 standing_is n h = rw (lt-ltb n 255 h)
 
-module _ {t : Taken} {m area : List ℕ} {i : ℕ} (k : length m ≡ 255) (l : 255 ≤ length area) where
+module _ {t : Taken} {m area : List ℕ} {i : ℕ} (l : 255 ≤ length area) where
   -- a slice was finished, of c bytes
-  pub with_slice : {c r : ℕ} {area' : List ℕ} → c ≤ 255 → Going t i (record { taken = 1; slice = take c m; held = []; memory = m }) → PutAt area 0 (take c m) r area' → Received (took t) area (record { number = 0; taken = i + 1; length = c }) m 0 area'
+  pub with_slice : {c r : ℕ} {area' : List ℕ} → length m ≡ 255 → c ≤ 255 → Going t i (record { taken = 1; slice = take c m; held = []; memory = m }) → PutAt area 0 (take c m) r area' → Received (took t) area (record { number = 0; taken = i + 1; length = c }) m 0 area'
   unfolding standing
-  with_slice {c} h g p =
+  with_slice {c} k h g p =
       let n : length t.slice ≡ c = ap length g.slice ∙ length-take-le c m (omega arith) in
       record {
         number_is = refl;
@@ -132,8 +132,8 @@ module _ {t : Taken} {m area : List ℕ} {i : ℕ} (k : length m ≡ 255) (l : 2
       }
 
   -- none was, and n bytes are held
-  pub without_slice : {n : ℕ} → n < 255 → Going t i (record { taken = 0; slice = []; held = take n m; memory = m }) → Received (took t) area (record { number = 0; taken = i; length = 0 }) m n area
-  without_slice {n} h g =
+  pub without_slice : {n : ℕ} → length m ≡ 255 → n < 255 → Going t i (record { taken = 0; slice = []; held = take n m; memory = m }) → Received (took t) area (record { number = 0; taken = i; length = 0 }) m n area
+  without_slice {n} k h g =
       record {
         number_is = refl;
         taken_is = omega (arith, g.taken);

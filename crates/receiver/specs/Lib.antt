@@ -1,5 +1,6 @@
 pub mod Rule
 pub mod Receive
+pub mod Told
 pub mod Line
 pub mod Shape
 pub mod Worked

@@ -1,7 +1,8 @@
 // The receiver: bytes taken one by one until a slice is finished.
-ghost use Rattle.std.specs.Prelude.{◌≡◌, ◌≤◌, ◌<◌, length, take};
+ghost use Rattle.std.specs.Prelude.{◌≡◌, ◌≤◌, ◌<◌, length, take, Ok, IsOk, IfOk, IfSome};
 ghost use Rattle.receiver.specs.Rule.{ended};
 ghost use Rattle.receiver.specs.Receive.{standing, held_in, taken, took, received, Stepped, Received, SameState};
+ghost use Rattle.receiver.specs.Told.{told};
 
 use frame::{ETX, STX};
 use refusals::refusal::Refusal;
@@ -14,14 +15,40 @@ pub struct Receiver<'a> {
     pub count: &'a mut u8,
 }
 
-// What a call returns: the refusal number, or 0; how many bytes were taken; the length of the slice that was finished, 0 for
-// none. C is given it as it stands, so that it is no Result.
+// What a call came to: how many bytes were taken, and the length of the slice that was finished.
+#[derive(Clone, Copy, Debug, PartialEq, Eq)]
+pub struct Taken {
+    pub taken: usize,
+    pub slice: Option<usize>,
+}
+
+// The same as C is given it: the refusal number, or 0; how many bytes were taken; the length of the slice that was finished, 0
+// for none.
 #[repr(C)]
 #[derive(Clone, Copy)]
 pub struct Reception {
     pub number: u8,
     pub taken: usize,
     pub length: usize,
+}
+
+impl From<Result<Taken, Refusal>> for Reception {
+    ghost from_gives = { λ answer reception. reception ≡ told answer };
+
+    fn from(answer: Result<Taken, Refusal>) -> Reception {
+        match answer {
+            Ok(all) => Reception {
+                number: 0,
+                taken: all.taken,
+                length: all.slice.unwrap_or(0),
+            },
+            Err(refusal) => Reception {
+                number: refusal.number(),
+                taken: 0,
+                length: 0,
+            },
+        }
+    }
 }
 
 // What a byte did: it finished a slice of so many bytes, or so many are held.
@@ -31,15 +58,13 @@ pub enum Step {
     Held(usize),
 }
 
-// How many bytes are held: a count that no call leaves means none.
+// How many bytes are held: a count that no call leaves means none. That the memory has 255 bytes a lent struct doesn't tell.
 #[tactic(auto, unfolding(crate::specs::Receive::standing))]
-fn standing_of(count: u8) -> usize
-    ensures { (result ≡ standing count) × (result < 255) }
+fn standing_of(held: &[u8; 255], count: u8) -> usize
+    ensures { (result ≡ standing count) × (result < 255) × (length held.now ≡ 255) }
 {
-    if count < 255 {
-        return count as usize;
-    }
-    0
+    let n = count as usize;
+    if n < held.len() { n } else { 0 }
 }
 
 // Whether the n bytes held end with ETX.
@@ -72,52 +97,51 @@ fn take_byte(held: &mut [u8; 255], n: usize, b: u8) -> Step
     Step::Held(n + 1)
 }
 
-// Takes bytes until a slice is finished, which then stands at the front of the area, or none is left.
-fn take_arrived(held: &mut [u8; 255], count: &mut u8, arrived: &[u8], area: &mut [u8]) -> Reception
-    requires { 255 ≤ length area.old }
-    ensures { Received (took (taken held.old (held_in held.old count.old) arrived.now)) area.old result held.new count.new area.new }
-{
-    let mut n = standing_of(*count);
-    for (i, b) in arrived.iter().enumerate() {
-        match take_byte(held, n, *b) {
-            Step::Finished(length) => {
-                put_bytes(area, Cursor { at: 0, sum: 0 }, &held[..length]);
-                *count = 0;
-                return Reception {
-                    number: 0,
-                    taken: i + 1,
-                    length,
-                };
-            }
-            Step::Held(more) => {
-                n = more;
+impl Receiver<'_> {
+    // Takes bytes until a slice is finished, which then stands at the front of the area, or none is left.
+    #[tactic(auto, using(crate::proofs::Steps::at_start))]
+    fn take_arrived(&mut self, arrived: &[u8], area: &mut [u8]) -> Taken
+        requires { 255 ≤ length area.old }
+        ensures received { Received (took (taken self.old.held.now (held_in self.old.held.now self.old.count.now) arrived.now)) area.old (told (Ok result)) self.new.held.now self.new.count.now area.new }
+        ensures some { IfSome result.slice (λ n. 0 < n) }
+        ensures same_state { SameState self.old self.new }
+    {
+        let mut n = standing_of(self.held, *self.count);
+        for (i, b) in arrived.iter().enumerate() {
+            match take_byte(self.held, n, *b) {
+                Step::Finished(length) => {
+                    put_bytes(area, Cursor { at: 0, sum: 0 }, &self.held[..length]);
+                    *self.count = 0;
+                    return Taken {
+                        taken: i + 1,
+                        slice: Some(length),
+                    };
+                }
+                Step::Held(more) => {
+                    n = more;
+                }
             }
         }
+        *self.count = n as u8;
+        Taken {
+            taken: arrived.len(),
+            slice: None,
+        }
     }
-    *count = n as u8;
-    Reception {
-        number: 0,
-        taken: arrived.len(),
-        length: 0,
-    }
-}
 
-impl Receiver<'_> {
     // Takes bytes of what has arrived until a slice is finished or none is left. A finished slice stands at the front of the
     // area, and the rest of the area is untouched; without one the whole area is. An area under 255 bytes is refused with 1
     // ROOM: nothing is taken, and nothing changes.
     #[tactic(auto, using(crate::proofs::Steps::rooms))]
-    pub fn receive(&mut self, arrived: &[u8], area: &mut [u8]) -> Reception
-        ensures received { Received (received self.old.held.now self.old.count.now arrived.now (length area.old)) area.old result self.new.held.now self.new.count.now area.new }
+    pub fn receive(&mut self, arrived: &[u8], area: &mut [u8]) -> Result<Taken, Refusal>
+        ensures received { Received (received self.old.held.now self.old.count.now arrived.now (length area.old)) area.old (told result) self.new.held.now self.new.count.now area.new }
+        ensures roomy { 255 ≤ length area.old → IsOk result }
+        ensures some { IfOk result (λ t. IfSome t.slice (λ n. 0 < n)) }
         ensures same_state { SameState self.old self.new }
     {
         if area.len() < 255 {
-            return Reception {
-                number: Refusal::Room.number(),
-                taken: 0,
-                length: 0,
-            };
+            return Err(Refusal::Room);
         }
-        take_arrived(self.held, self.count, arrived, area)
+        Ok(self.take_arrived(arrived, area))
     }
 }
