@@ -11,7 +11,7 @@ use lib.Seq.{take-add, length-take-le}
 use lib.Dec.{ltb}
 use Rattle.tables.specs.Tables.{Tables}
 use Rattle.model.specs.Box.{Box}
-use Rattle.stream.specs.declared.progress.Progress.{Progress}
+use Rattle.stream.specs.declared.buffers.Buffers.{Buffers}
 use Rattle.stream.specs.Cell.{Cell, taken_all, cell_of, Took}
 use Rattle.stream.proofs.Laws.{taken_append, part_is, take_short}
 use Rattle.stream.proofs.WholeInput.{taken_all_preceded}
@@ -32,14 +32,14 @@ room_made out w (inr e) k =
     record { before = k.before ++ take w out; state_is = rw (e, append-nil) k.state_is }
 
 -- where there is room and input, a byte is taken
-pub part_some : {st st' input : List ℕ} {t t' : Tables} {n : ℕ} (held held' out out' : List ℕ) (p q : Progress) → p.waiting + 132 ≤ 65536 → 0 < length input → length out' ≡ 65536 → Took (cell_of st t held out p) input n (cell_of st' t' held' out' q) → (n ≡ length input) ⊎ (65404 < q.waiting) → 0 < n
+pub part_some : {st st' input : List ℕ} {t t' : Tables} {n : ℕ} (b b' : Buffers) → b.waiting + 132 ≤ 65536 → 0 < length input → length b'.output ≡ 65536 → Took (cell_of st t b) input n (cell_of st' t' b') → (n ≡ length input) ⊎ (65404 < b'.waiting) → 0 < n
 unfolding taken_all
-part_some {input = input} {n = n} held held' out out' p q room more l k stops = go (ltb 0 n) refl stops
+part_some {input = input} {n = n} b b' room more l k stops = go (ltb 0 n) refl stops
   where
-    go : (b : Bool) → ltb 0 n ≡ b → (n ≡ length input) ⊎ (65404 < q.waiting) → 0 < n
+    go : (v : Bool) → ltb 0 n ≡ v → (n ≡ length input) ⊎ (65404 < b'.waiting) → 0 < n
     go true e stops = ltb-true _ _ e
     go false e (inl f) = omega arith
     go false e (inr g) =
         let z : n ≡ 0 = omega (arith, ltb-false 0 n e) in
         let f = ap (λ (c : Cell). length c.output) (rw z at k.state_is) in
-        absurd (omega (arith, f, length-take-le q.waiting out' (omega (arith, l, q.waiting_fits)), take_short p.waiting out))
+        absurd (omega (arith, f, length-take-le b'.waiting b'.output (omega (arith, l, b'.waiting_fits)), take_short b.waiting b.output))

@@ -8,12 +8,14 @@ ghost use Rattle.tables.specs.Arms.{tables_of, SameTables};
 ghost use Rattle.stream.specs.Cell.{cell_of};
 ghost use Rattle.cell.specs.Block.{BlockTaken};
 
+use crate::ready::Ready;
 use lines::collect::front;
 use slots::setup::setup;
 use std::io::Read;
-use stream::input::{answer_last, take_block};
-use stream::progress::Progress;
+use stream::buffers::Buffers;
 use tables::arms::Arms;
+
+mod ready; // ready.rt: buffers that take another answer
 
 // The descriptors of standard input and standard output.
 const STDIN_FILENO: i32 = 0;
@@ -39,29 +41,18 @@ fn answer_block(
     programs: &mut [u8],
     stations: &[u8; 4],
     input: &[u8],
-    held: &mut [u8; 513],
-    out: &mut [u8; 65536],
-    start: Progress,
-) -> Progress
-    requires { start.waiting + 132 ≤ 65536 }
-    ensures block_taken { BlockTaken (cell_of stations.now (tables_of arms.old programs.old) held.old out.old start) input.now (cell_of stations.now (tables_of arms.new programs.new) held.new out.new result) }
+    ready: &mut Ready,
+)
+    ensures block_taken { BlockTaken (cell_of stations.now (tables_of arms.old programs.old) ready.old.buffers) input.now (cell_of stations.now (tables_of arms.new programs.new) ready.new.buffers) }
     ensures same_tables { SameTables arms.old arms.new }
-    ensures waiting_after { result.waiting + 132 ≤ 65536 }
 {
-    let mut state = start;
     let mut i = 0;
     // A `while`: each step takes a part, of any length.
     while i < input.len() {
-        let part = take_block(arms, programs, stations, &input[i..], held, out, state);
-        let next = part.state;
-        let waiting = make_room(out, next.waiting);
-        state = Progress {
-            held: next.held,
-            waiting,
-        };
-        i += part.taken;
+        let buffers = &mut ready.buffers;
+        i += buffers.take_block(arms, programs, stations, &input[i..]);
+        buffers.waiting = make_room(&buffers.output, buffers.waiting);
     }
-    state
 }
 
 // Reads a block of input, and returns how many bytes came: none at the input's end, and where reading fails.
@@ -79,49 +70,28 @@ fn answer_blocks(
     programs: &mut [u8],
     stations: &[u8; 4],
     input: &mut [u8],
-    held: &mut [u8; 513],
-    out: &mut [u8; 65536],
-) -> Progress
-    ensures { result.waiting + 132 ≤ 65536 }
-{
-    let mut state = Progress {
-        held: 0,
-        waiting: 0,
-    };
+    ready: &mut Ready,
+) {
     for _ in 0..u64::MAX {
         let n = read_block(rt, input);
         if n == 0 {
-            return state;
+            return;
         }
-        state = answer_block(arms, programs, stations, front(input, n), held, out, state);
+        answer_block(arms, programs, stations, front(input, n), ready);
     }
-    state
 }
 
-// Answers a last line that is not empty and has no LF, and writes all that waits.
-fn answer_rest(
-    arms: &mut Arms<'_>,
-    programs: &mut [u8],
-    stations: &[u8; 4],
-    held: &[u8; 513],
-    out: &mut [u8; 65536],
-    state: Progress,
-)
-    requires { state.waiting + 132 ≤ 65536 }
-{
-    let last = answer_last(arms, programs, stations, held, out, state);
-    io::write_all(STDOUT_FILENO, front(out, last.waiting));
-}
-
-// Answers every line of standard input on tables that are set up.
+// Answers every line of standard input on tables that are set up, also a last line that is not empty and has no LF, and
+// writes all that waits.
 fn answer_all(rt: &HostRuntime, arms: &mut Arms<'_>, programs: &mut [u8], stations: &[u8; 4]) {
     let mut input = io::large_buffer();
-    let mut held = [0u8; 513];
-    let mut out = io::large_buffer();
-    let state = answer_blocks(
-        rt, arms, programs, stations, &mut input, &mut held, &mut out,
-    );
-    answer_rest(arms, programs, stations, &held, &mut out, state);
+    let mut ready = Ready {
+        buffers: Buffers::empty(),
+    };
+    answer_blocks(rt, arms, programs, stations, &mut input, &mut ready);
+    let buffers = &mut ready.buffers;
+    buffers.answer_last(arms, programs, stations);
+    io::write_all(STDOUT_FILENO, front(&buffers.output, buffers.waiting));
 }
 
 // Sets up stations 1 to 4, and answers.

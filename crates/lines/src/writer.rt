@@ -7,7 +7,8 @@ use text::put::{Cursor, put_byte, put_bytes};
 use text::whole::put_two_digits;
 
 // The hexadecimal capital of d.
-fn capital_of(d: u8) -> u8
+#[tactic(auto, unfolding(crate::specs::Lines::capital))]
+pub fn capital_of(d: u8) -> u8
     requires { d < 16 }
     ensures { result ≡ capital d }
 {

@@ -1,8 +1,7 @@
 // What the example programs write on standard output: labels, texts, numbers and bytes.
 #![tactic(auto)]
 
-ghost use Rattle.std.specs.Prelude.{◌<◌};
-
+use lines::writer::capital_of;
 use refusals::refusal::{Refusal, Refused};
 use text::put::Cursor;
 use text::whole::put_two_digits;
@@ -42,14 +41,8 @@ pub fn put_signed(v: i32) {
     put_whole(v.unsigned_abs() as u64);
 }
 
-fn hexadecimal(d: u8) -> u8
-    requires { d < 16 }
-{
-    if d < 10 { b'0' + d } else { b'A' + (d - 10) }
-}
-
 fn put_hexadecimal(b: u8) {
-    let digits = [hexadecimal(b / 16), hexadecimal(b % 16)];
+    let digits = [capital_of(b / 16), capital_of(b % 16)];
     put(&digits);
 }
 

@@ -20,7 +20,7 @@ use Rattle.model.specs.Box.{Box, box, after, perform}
 use Rattle.lines.specs.Lines.{is_call, slice_of}
 use Rattle.lines.proofs.Laws.{put_behind}
 use Rattle.answers.specs.Answers.{line_call, box_after, LineAnswered}
-use Rattle.stream.specs.declared.progress.Progress.{Progress}
+use Rattle.stream.specs.declared.buffers.Buffers.{Buffers}
 use Rattle.stream.specs.Cell.{Cell, ended, extended, taken, taken_all, finished, cell_of, Took}
 
 -- ---- a line that has ended
@@ -36,9 +36,9 @@ unfolding box_after
 box_is b line e = rw e (left b (slice_of line) (is_call line))
 
 -- r bytes of output wait
-pub line_ended : {st line out' : List ℕ} {t t' : Tables} {r : ℕ} (held out : List ℕ) (p : Progress) → length out ≡ 65536 → p.waiting + 132 ≤ 65536 → line ≡ take p.held held → LineAnswered (box st t) line out p.waiting r out' t' → record { box = box st t'; line = []; output = take r out' } ≡ ended (cell_of st t held out p)
+pub line_ended : {st line out' : List ℕ} {t t' : Tables} {r : ℕ} (b : Buffers) → length b.output ≡ 65536 → b.waiting + 132 ≤ 65536 → line ≡ take b.held b.line → LineAnswered (box st t) line b.output b.waiting r out' t' → record { box = box st t'; line = []; output = take r out' } ≡ ended (cell_of st t b)
 unfolding ended
-line_ended {st} {line} {t = t} held out p l h e a =
+line_ended {st} {line} {t = t} b l h e a =
     rw (← e, box_is (box st t) line a.tables_are, put_behind a.answer_is (omega (arith, a.short, l)))
 
 -- ---- the lent tables: the same ones
@@ -147,18 +147,17 @@ extended_all (b ∷ s) c h l =
 
 -- ---- the input's end
 
-module _ (held out : List ℕ) (p : Progress) (l : length held ≡ 513) where
-  -- as many bytes are held as the progress says
-  held_count : length (take p.held held) ≡ p.held
-  held_count = length-take-le p.held held (omega (arith, l, p.held_fits))
+module _ (b : Buffers) (l : length b.line ≡ 513) where
+  held_count : length (take b.held b.line) ≡ b.held
+  held_count = length-take-le b.held b.line (omega (arith, l, b.held_fits))
 
-  pub finished_empty : (st : List ℕ) (t : Tables) → p.held ≡ 0 → finished (cell_of st t held out p) ≡ cell_of st t held out p
+  pub finished_empty : (st : List ℕ) (t : Tables) → b.held ≡ 0 → finished (cell_of st t b) ≡ cell_of st t b
   unfolding finished
-  finished_empty st t e = rw (eq-eqb (length (take p.held held)) 0 (held_count ∙ e))
+  finished_empty st t e = rw (eq-eqb (length (take b.held b.line)) 0 (held_count ∙ e))
 
-  pub finished_more : (st : List ℕ) (t : Tables) → (p.held ≡ 0 → ⊥) → finished (cell_of st t held out p) ≡ ended (cell_of st t held out p)
+  pub finished_more : (st : List ℕ) (t : Tables) → (b.held ≡ 0 → ⊥) → finished (cell_of st t b) ≡ ended (cell_of st t b)
   unfolding finished
-  finished_more st t n = rw (ne_eqb (length (take p.held held)) 0 (λ e. n (sym held_count ∙ e)))
+  finished_more st t n = rw (ne_eqb (length (take b.held b.line)) 0 (λ e. n (sym held_count ∙ e)))
 
-  pub line_grown : {st line : List ℕ} {t : Tables} (s : List ℕ) → NoFeed s → line ≡ take 513 (take p.held held ++ s) → record { box = box st t; line = line; output = take p.waiting out } ≡ taken_all (cell_of st t held out p) s
-  line_grown {st} {line} {t} s h e = rw e (sym (extended_all s (cell_of st t held out p) h (omega (arith, held_count, p.held_fits))))
+  pub line_grown : {st line : List ℕ} {t : Tables} (s : List ℕ) → NoFeed s → line ≡ take 513 (take b.held b.line ++ s) → record { box = box st t; line = line; output = take b.waiting b.output } ≡ taken_all (cell_of st t b) s
+  line_grown {st} {line} {t} s h e = rw e (sym (extended_all s (cell_of st t b) h (omega (arith, held_count, b.held_fits))))

@@ -3,7 +3,7 @@ use Rattle.std.specs.Prelude.{ℕ, ◌≤◌, ◌≡◌, cond, List, [], ◌∷�
 use Rattle.tables.specs.Tables.{Tables}
 use Rattle.model.specs.Box.{Box, box}
 use Rattle.answers.specs.Answers.{line_answer, box_after}
-use Rattle.stream.specs.declared.progress.Progress.{Progress}
+use Rattle.stream.specs.declared.buffers.Buffers.{Buffers}
 
 -- the box, what is held of the line that has not ended, the answers that wait to be written
 pub record Cell : Type 0 where
@@ -43,10 +43,10 @@ preceded w c = record { box = c.box; line = c.line; output = w ++ c.output }
 
 -- ---- the state in memory
 
--- the state that lent stations, tables, line and output are
-abbrev pub cell_of : List ℕ → Tables → List ℕ → List ℕ → Progress → Cell
-cell_of st t held out p =
-    record { box = box st t; line = take p.held held; output = take p.waiting out }
+-- the state that stations, tables, line and output are
+abbrev pub cell_of : List ℕ → Tables → Buffers → Cell
+cell_of st t b =
+    record { box = box st t; line = take b.held b.line; output = take b.waiting b.output }
 
 -- so many bytes of the input were taken: c is the state before and d after
 pub record Took (c : Cell) (input : List ℕ) (n : ℕ) (d : Cell) : Type 0 where

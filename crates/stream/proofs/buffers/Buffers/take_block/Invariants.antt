@@ -1,0 +1,16 @@
+-- The invariant: the buffers are those of the i bytes taken; the lent memory is as long as it was.
+use Rattle.std.proofs.Common.{◌≡◌, ◌-◌, ◌≤◌, length, take}
+use Rattle.tables.specs.Arms.{tables_of, SameTables}
+use Rattle.stream.specs.Cell.{taken_all, cell_of}
+use Rattle.stream.proofs.buffers.Buffers.take_block.Given as goal
+
+abbrev pub invariant-loop-i : goal.invariant-loop-i
+invariant-loop-i l = record {
+  within : l.i ≤ length l.input;
+  state_is : cell_of l.stations (tables_of l.arms l.programs) l.self ≡ taken_all (cell_of l.stations (tables_of l.initial.arms l.initial.programs) l.initial.self) (take l.i l.input);
+  same_tables : SameTables l.initial.arms l.arms;
+  same_length : length l.programs ≡ length l.initial.programs;
+}
+
+abbrev pub decreases-loop-i : goal.decreases-loop-i
+decreases-loop-i l = length l.input - l.i
