@@ -15,7 +15,7 @@ use replies::reply::Outcome;
 use reply_reader::reader::read_outcome;
 use reply_writer::writer::{judge_outcome, put_outcome};
 
-// What a slice asks, and of which station.
+// A request, and the station that it is for.
 #[derive(Clone, Copy)]
 pub struct Asked {
     pub station: u8,
@@ -63,11 +63,11 @@ pub fn judge_station(station: u8) -> Result<(), Refusal>
 
 // Checks 7, 11 and 12 of a typed request, in that order.
 #[tactic(auto, unfolding(crate::specs::Message::judge_asked))]
-fn judge_asked(station: u8, request: Request) -> Result<(), Refusal>
-    ensures { refusal_number result ≡ judge_asked station request }
+fn judge_asked(asked: Asked) -> Result<(), Refusal>
+    ensures { refusal_number result ≡ judge_asked asked.station asked.request }
 {
-    judge_station(station)?;
-    let parts = Parts::from(request);
+    judge_station(asked.station)?;
+    let parts = Parts::from(asked.request);
     judge_parts(rule_of(parts.command), parts.number, parts.payload)
 }
 
@@ -87,52 +87,47 @@ pub fn read_request(slice: &[u8]) -> Result<Asked, Refused>
 
 // Writes a request, and returns the length of its frame: checks 1, 7, 11 and 12.
 #[tactic(auto, using(frame::proofs::Writing::opening_length, text::proofs::Digits::shortest_short, bodies::proofs::Bodies::body_length), unfolding(crate::specs::Message::write_request))]
-pub fn write_request(area: &mut [u8], station: u8, request: Request) -> Result<usize, Refusal>
-    ensures { Wrote (write_request (length area.old) station request) area.old (sent_by result) area.new }
+pub fn write_request(area: &mut [u8], asked: Asked) -> Result<usize, Refusal>
+    ensures { Wrote (write_request (length area.old) asked.station asked.request) area.old (sent_by result) area.new }
 {
     if area.len() < 64 {
         return Err(Refusal::Room);
     }
-    judge_asked(station, request)?;
-    let at = open_frame(area, station);
-    let end = put_body(area, at, request.into());
+    judge_asked(asked)?;
+    let at = open_frame(area, asked.station);
+    let end = put_body(area, at, asked.request.into());
     Ok(close_frame(area, end))
 }
 
 // Writes the reply to a request, and returns the length of its frame: checks 1, 7, 11 and 12 of the request, then 12 of what
 // the reply carries.
 #[tactic(auto, using(frame::proofs::Writing::opening_length, text::proofs::Digits::shortest_short, reply_writer::proofs::Texts::outcome_length), unfolding(crate::specs::Message::write_reply, crate::specs::Message::judge_reply))]
-pub fn write_reply(
-    area: &mut [u8],
-    station: u8,
-    request: Request,
-    outcome: Outcome,
-) -> Result<usize, Refusal>
-    ensures { Wrote (write_reply (length area.old) station request outcome) area.old (sent_by result) area.new }
+pub fn write_reply(area: &mut [u8], asked: Asked, outcome: Outcome) -> Result<usize, Refusal>
+    ensures { Wrote (write_reply (length area.old) asked.station asked.request outcome) area.old (sent_by result) area.new }
 {
     if area.len() < 64 {
         return Err(Refusal::Room);
     }
-    judge_asked(station, request)?;
-    let parts = Parts::from(request);
+    judge_asked(asked)?;
+    let parts = Parts::from(asked.request);
     let rule = rule_of(parts.command);
     judge_outcome(rule, parts.number, outcome)?;
-    let at = open_frame(area, station);
+    let at = open_frame(area, asked.station);
     let past = put_outcome(area, at, rule.store, outcome);
     Ok(close_frame(area, past))
 }
 
 // Reads the reply to a request: checks 7, 11 and 12 of the request, 2 to 7 of the slice, then 15.
 #[tactic(auto, unfolding(crate::specs::Message::read_reply))]
-pub fn read_reply(slice: &[u8], station: u8, request: Request) -> Result<Outcome, Refused>
-    ensures { answered_values result ≡ read_reply slice.now station request }
+pub fn read_reply(slice: &[u8], asked: Asked) -> Result<Outcome, Refused>
+    ensures { answered_values result ≡ read_reply slice.now asked.station asked.request }
 {
-    judge_asked(station, request)?;
+    judge_asked(asked)?;
     let frame = read_frame(slice)?;
-    if frame.station != station {
+    if frame.station != asked.station {
         return Err(Refusal::Reply.into());
     }
-    let parts = Parts::from(request);
+    let parts = Parts::from(asked.request);
     let carried = read_outcome(rule_of(parts.command), parts.number, frame.body);
     carried.ok_or(Refusal::Reply.into())
 }

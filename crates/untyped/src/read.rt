@@ -7,7 +7,7 @@ ghost use Rattle.readings.specs.declared.convert.Converted.TheVariants as conver
 
 use commands::request::{Parts, Payload, Row};
 use commands::table::{Form, rule_of};
-use harl::message::judge_station;
+use harl::message::{Asked, judge_station};
 use names::command::{COMMANDS, Command};
 use readings::convert::{Converted, Reading, convert};
 use readings::reply::read_converted;
@@ -72,7 +72,13 @@ fn read_coded(
         number,
         payload: payload_for(command, values, texts),
     };
-    read_converted(slice, station, parts.into())
+    read_converted(
+        slice,
+        Asked {
+            station,
+            request: parts.into(),
+        },
+    )
 }
 
 // What a reply carries that is accepted.
