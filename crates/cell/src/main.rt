@@ -46,12 +46,12 @@ fn answer_block(
     ensures block_taken { BlockTaken (cell_of stations.now (tables_of arms.old programs.old) ready.old.buffers) input.now (cell_of stations.now (tables_of arms.new programs.new) ready.new.buffers) }
     ensures same_tables { SameTables arms.old arms.new }
 {
-    let mut i = 0;
-    // A `while`: each step takes a part, of any length.
-    while i < input.len() {
+    let mut rest = input;
+    while !rest.is_empty() {
         let buffers = &mut ready.buffers;
-        i += buffers.take_block(arms, programs, stations, &input[i..]);
+        let taken = buffers.take_block(arms, programs, stations, rest);
         buffers.waiting = make_room(&buffers.output, buffers.waiting);
+        rest = &rest[taken..];
     }
 }
 

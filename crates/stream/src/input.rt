@@ -68,7 +68,7 @@ impl Buffers {
         ensures same_tables { SameTables arms.old arms.new }
     {
         let mut i = 0;
-        // A `while`: each step takes a line, of any length.
+        // A `while` with an index: each step takes a line, of any length, and the index is returned.
         while i < input.len() && self.waiting <= 65404 {
             i += self.take_line(arms, programs, stations, &input[i..]);
         }
