@@ -23,8 +23,8 @@ use replies::reply::{Outcome, number_in, put_performed, put_refusal};
 use steps::step::Step;
 use tables::arms::Arms;
 
-// The first slot that has a station; 0 is none's. The tests go from slot 3 down, so that the first slot is kept,
-// and none of them returns, so that each compiles to a conditional move.
+// The first slot that has a station; 0 is none's. For speed (docs/SPEED.md) the tests go from slot 3 down, so that the first slot
+// is kept, and none of them returns, so that each compiles to a conditional move; 4 is no slot's number.
 #[tactic(auto, unfolding(model::specs::Box::slot_of, model::specs::Box::scan))]
 fn find_slot(stations: &[u8; 4], station: u8) -> Option<Slot>
     ensures { option_map (λ s. s.index) result ≡ found_in stations.now station }

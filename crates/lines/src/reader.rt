@@ -33,6 +33,7 @@ fn put_slice(line: &[u8], slice: &mut [u8; 256]) -> usize
     ensures slice_after { slice.new ≡ sets slice.old 0 (slice_of line.now) }
 {
     let n = line.len() / 2;
+    // By its index: of what is written by `iter_mut`, no byte is known.
     for i in 0..n {
         slice[i] = value_of(line[2 * i]) * 16 + value_of(line[2 * i + 1]);
     }

@@ -1,6 +1,6 @@
 // The entries of the crates gateway, slots, receiver, chooser, hosts and untyped under names with the prefix of the static
 // library, in the form in which a program in C or Rust can call them, each with the contract of its entry. The crate llamput_c
-// exports them.
+// exports them: a crate is a library or an archive, and what is exported is exported from an archive.
 //
 // A table is a pointer to its first element. A slice is a pointer and a length, and as a result a struct of the two. The
 // answers of serving and of receiving are returned as a struct of a byte and two sizes, that of serving the next of two ports
