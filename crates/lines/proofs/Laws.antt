@@ -52,12 +52,11 @@ call_is s e =
 
 -- ---- a slice from its digits
 
--- byte i is spelled by the digits at 2 * i and behind it
-pub slice_more : (s : List ℕ) (i : ℕ) → 2 * i + 1 < length s → slice_of (drop (2 * i) s) ≡ (value (get_or s (2 * i) 0) * 16 + value (get_or s (2 * i + 1) 0)) ∷ slice_of (drop (2 * (i + 1)) s)
+pub slice_more : (s : List ℕ) (i : ℕ) → i + 1 < length s → slice_of (drop i s) ≡ (value (get_or s i 0) * 16 + value (get_or s (i + 1) 0)) ∷ slice_of (drop (i + 2) s)
 unfolding slice_of
 slice_more s i h =
-    let e : 2 * i + 1 + 1 ≡ 2 * (i + 1) = omega arith in
-    rw (here s (2 * i) (omega arith), here s (2 * i + 1) h, e)
+    let e : i + 1 + 1 ≡ i + 2 = omega arith in
+    rw (here s i (omega arith), here s (i + 1) h, e)
 
 pub slice_end : (s : List ℕ) (i : ℕ) → length s ≤ i → slice_of (drop i s) ≡ []
 unfolding slice_of

@@ -1,4 +1,4 @@
-use Rattle.std.proofs.Common.{◌+◌, ◌*◌, length, sym, ap, ◌∙◌, add-one, arith}
+use Rattle.std.proofs.Common.{◌≡◌, ◌+◌, ◌*◌, length, sym, ap, ◌∙◌, add-one, arith}
 use Rattle.lines.proofs.Laws.{call_is, digit_at, slice_more, slice_end}
 use Rattle.lines.proofs.reader.put_slice.Goals as goal
 
@@ -19,7 +19,8 @@ bounds-slice-i c =
 
 pub loop-i-preserved : goal.loop-i-preserved
 loop-i-preserved c =
-    let m = slice_more c.args.line.now c.loop-i.i (omega arith) in
+    let e : 2 * c.loop-i.i + 2 ≡ 2 * (c.loop-i.i + 1) = omega arith in
+    let m = rw e at (slice_more c.args.line.now (2 * c.loop-i.i) (omega arith)) in
     record {
       count = omega (arith, c.loop-i.invariant.count, ap length m);
       written = c.loop-i.invariant.written ∙ rw (m, c.value_of.ensures, c.value_of-in-loop-i.ensures, add-one c.loop-i.i);
