@@ -17,9 +17,7 @@ use tables::arms::Arms;
 
 mod ready; // ready.rt: buffers that take another answer
 
-// The descriptors of standard input and standard output.
-const STDIN_FILENO: i32 = 0;
-
+// The descriptor of standard output.
 const STDOUT_FILENO: i32 = 1;
 
 // Writes the waiting bytes out where fewer than 132 are free, which the longest answer has. Returns how many
@@ -55,7 +53,8 @@ fn answer_block(
     }
 }
 
-// Reads a block of input, and returns how many bytes came: none at the input's end, and where reading fails.
+// Reads a block of input, and returns how many bytes came: none at the input's end, which `read` itself calls 0, and none where
+// reading fails. An Option is no plainer: no more comes in either case, and what came is answered.
 fn read_block(rt: &HostRuntime, input: &mut [u8]) -> usize
     ensures { result ≤ length input.new }
 {

@@ -43,10 +43,6 @@ line_ended {st} {line} {t = t} b l h e a =
 
 -- ---- the lent tables: the same ones
 
-pub same_tables : (a : Arms) → SameTables a a
-same_tables a =
-    record { timers = refl; registers = refl; x = refl; y = refl; z = refl; w = refl; inputs = refl; outputs = refl; memory = refl; on = refl }
-
 pub still_same : {a b c : Arms} → SameTables a b → SameTables b c → SameTables a c
 still_same s t =
     record {

@@ -56,6 +56,7 @@ impl Buffers {
     }
 
     // Takes bytes of a block until it ends or the output has no room for another answer. Returns how many were taken.
+    #[tactic(auto, unfolding(crate::specs::Cell::taken_all))]
     pub fn take_block(
         &mut self,
         arms: &mut Arms<'_>,
@@ -76,6 +77,7 @@ impl Buffers {
     }
 
     // Answers a last line that is not empty and has no LF.
+    #[tactic(auto, using(crate::proofs::Laws::finished_empty, crate::proofs::Laws::finished_more))]
     pub fn answer_last(&mut self, arms: &mut Arms<'_>, programs: &mut [u8], stations: &[u8; 4])
         requires { self.old.waiting + 132 ≤ 65536 }
         ensures buffers_after { cell_of stations.now (tables_of arms.new programs.new) self.new ≡ finished (cell_of stations.now (tables_of arms.old programs.old) self.old) }

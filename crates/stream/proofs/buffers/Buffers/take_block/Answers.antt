@@ -1,12 +1,6 @@
-use Rattle.std.proofs.Common.{refl, ◌∙◌, arith}
-use Rattle.stream.specs.Cell.{taken_all}
-use Rattle.stream.proofs.Laws.{same_tables, still_same, part_within, part_taken}
+use Rattle.std.proofs.Common.{◌∙◌}
+use Rattle.stream.proofs.Laws.{still_same, part_within, part_taken}
 use Rattle.stream.proofs.buffers.Buffers.take_block.Goals as goal
-
-pub loop-i-init : goal.loop-i-init
-unfolding taken_all
-loop-i-init c =
-    record { within = omega arith; state_is = refl; same_tables = same_tables _; same_length = refl }
 
 pub loop-i-preserved : goal.loop-i-preserved
 loop-i-preserved c =
