@@ -8,7 +8,8 @@ mod printed; // printed.rt: the charts as printed
 use crate::printed::{memory_bits, signals};
 use commands::request::Signal;
 use ports::signal::place_of;
-use print::{put, put_whole};
+use print::show;
+use std::fmt;
 
 #[derive(Clone, Copy)]
 enum Chart {
@@ -16,15 +17,17 @@ enum Chart {
     MemoryBits,
 }
 
-fn put_name(chart: Chart) {
-    match chart {
-        Chart::Signals => put(b"signals"),
-        Chart::MemoryBits => put(b"memory bits"),
+impl fmt::Display for Chart {
+    fn fmt<W: fmt::Write>(&self, f: &mut fmt::Formatter<W>) -> fmt::Result {
+        match self {
+            Chart::Signals => write!(f, "signals"),
+            Chart::MemoryBits => write!(f, "memory bits"),
+        }
     }
 }
 
 // Whether the gateway finds a number of a chart at a bit of a port.
-fn stands_at(chart: Chart, number: u16, port: usize, bit: u8) -> bool {
+fn stands_at(chart: Chart, number: u16, port: usize, bit: usize) -> bool {
     let (first, end) = match chart {
         Chart::Signals => (0, 256),
         Chart::MemoryBits => (256, 384),
@@ -33,41 +36,33 @@ fn stands_at(chart: Chart, number: u16, port: usize, bit: u8) -> bool {
         return false;
     }
     let place = place_of(first, Signal(number));
-    place.port == port && place.bit == bit
+    place.port == port && place.bit as usize == bit
 }
 
-// Prints the numbers of a port's row, and returns how many of them the gateway finds there.
-fn put_numbers(chart: Chart, port: usize, row: [u16; 8]) -> u8 {
-    let mut found = 0;
-    for column in 0..8 {
-        let number = row[column];
-        put(b" ");
-        put_whole(number as u64);
-        if stands_at(chart, number, port, (7 - column) as u8) {
-            found += 1;
-        }
+// How many numbers of a port's row the gateway finds there. A row has the highest bit first.
+fn agreeing(chart: Chart, port: usize, row: &[u16; 8]) -> usize {
+    row.iter()
+        .rev()
+        .enumerate()
+        .filter(|(bit, number)| stands_at(chart, **number, port, *bit))
+        .count()
+}
+
+fn put_row(rt: &impl Print, chart: Chart, port: usize, row: &[u16; 8]) {
+    show(rt, format_args!("{chart}, port {port}:"));
+    for number in row {
+        show(rt, format_args!(" {number}"));
     }
-    found
+    show(rt, format_args!(": {} agree\n", agreeing(chart, port, row)));
 }
 
-fn put_row(chart: Chart, port: usize, row: [u16; 8]) {
-    put_name(chart);
-    put(b", port ");
-    put_whole(port as u64);
-    put(b":");
-    let found = put_numbers(chart, port, row);
-    put(b": ");
-    put_whole(found as u64);
-    put(b" agree\n");
-}
-
-fn put_chart(chart: Chart, rows: &[[u16; 8]]) {
+fn put_chart(rt: &impl Print, chart: Chart, rows: &[[u16; 8]]) {
     for (port, row) in rows.iter().enumerate() {
-        put_row(chart, port, *row);
+        put_row(rt, chart, port, row);
     }
 }
 
-fn main() {
-    put_chart(Chart::Signals, &signals());
-    put_chart(Chart::MemoryBits, &memory_bits());
+fn main(rt: HostRuntime) {
+    put_chart(&rt, Chart::Signals, &signals());
+    put_chart(&rt, Chart::MemoryBits, &memory_bits());
 }

@@ -3,54 +3,60 @@
 // from a model and not from this program.
 #![tactic(auto)]
 
-ghost use Rattle.std.specs.Prelude.{◌≡◌, ◌<◌, ◌≤◌, length};
+ghost use Rattle.std.specs.Prelude.{◌<◌, ◌≤◌, length};
 
-use print::{STDIN_FILENO, front, put, put_bytes, put_whole};
+use print::input::STDIN_FILENO;
+use print::{Bytes, front, show};
 use receiver::receive::Receiver;
+use std::fmt;
 
-// What a call came to: where the bytes that are left begin, and the length of the slice that was finished.
+// What a call came to: where the bytes that are left begin, and the slice that was finished.
 #[derive(Clone, Copy)]
-struct Turn {
+struct Turn<'a> {
     next: usize,
-    slice: Option<usize>,
+    slice: Option<&'a [u8]>,
 }
 
 // One call on the bytes from i on.
-fn take_turn(receiver: &mut Receiver<'_>, arrived: &[u8], i: usize, area: &mut [u8; 255]) -> Turn
+fn take_turn<'a>(
+    receiver: &mut Receiver<'_>,
+    arrived: &[u8],
+    i: usize,
+    area: &'a mut [u8; 255],
+) -> Turn<'a>
     requires { i < length arrived.now }
     ensures { (i < result.next) × (result.next ≤ length arrived.now) }
 {
-    let Ok(got) = receiver.receive(&arrived[i..], area) else {
-        unreachable!()
+    let r = receiver.receive(&arrived[i..], area);
+    let slice = if r.length == 0 {
+        None
+    } else {
+        Some(front(area, r.length))
     };
     Turn {
-        next: i + got.taken,
-        slice: got.slice,
+        next: i + r.taken,
+        slice,
     }
 }
 
-// Prints a slice that was finished, on a line.
-fn put_found(area: &[u8; 255], slice: Option<usize>) {
-    if let Some(length) = slice {
-        put_bytes(front(area, length));
-        put(b"\n");
-    }
-}
-
-// Prints the slices of an arrival.
-fn put_slices(receiver: &mut Receiver<'_>, arrived: &[u8]) {
+// Calls `found` with each slice of an arrival.
+fn each_slice<F: FnMut(&[u8])>(receiver: &mut Receiver<'_>, arrived: &[u8], mut found: F)
+    requires { F.IsAlwaysCallable found }
+{
     let mut area = [0u8; 255];
     let mut i = 0;
     // A `while`: each step takes as many bytes as its slice has.
     while i < arrived.len() {
-        let t = take_turn(receiver, arrived, i, &mut area);
-        i = t.next;
-        put_found(&area, t.slice);
+        let turn = take_turn(receiver, arrived, i, &mut area);
+        i = turn.next;
+        if let Some(slice) = turn.slice {
+            found(slice);
+        }
     }
 }
 
 // Prints the slices of a line that arrives by `size` bytes, from fresh state.
-fn put_cut(line: &[u8], size: usize)
+fn put_cut(rt: &impl Print, line: &[u8], size: usize)
     requires { 0 < size }
 {
     let mut held = [0u8; 255];
@@ -60,20 +66,22 @@ fn put_cut(line: &[u8], size: usize)
         count: &mut count,
     };
     for part in line.chunks(size) {
-        put_slices(&mut receiver, part);
+        each_slice(&mut receiver, part, |slice| {
+            show(rt, format_args!("{}\n", Bytes(slice)));
+        });
     }
 }
 
 // In each of the four ways; a line has at most 65,536 bytes.
-fn put_cuts(line: &[u8]) {
-    put(b"by 1\n");
-    put_cut(line, 1);
-    put(b"by 7\n");
-    put_cut(line, 7);
-    put(b"by 254\n");
-    put_cut(line, 254);
-    put(b"whole\n");
-    put_cut(line, 65536);
+fn put_cuts(rt: &impl Print, line: &[u8]) {
+    show(rt, "by 1\n");
+    put_cut(rt, line, 1);
+    show(rt, "by 7\n");
+    put_cut(rt, line, 7);
+    show(rt, "by 254\n");
+    put_cut(rt, line, 254);
+    show(rt, "whole\n");
+    put_cut(rt, line, 65536);
 }
 
 #[derive(Clone, Copy)]
@@ -84,12 +92,14 @@ enum Feed {
     Run,
 }
 
-fn put_name(feed: Feed) {
-    match feed {
-        Feed::Noise => put(b"noise "),
-        Feed::Stx => put(b"stx "),
-        Feed::Etx => put(b"etx "),
-        Feed::Run => put(b"run "),
+impl fmt::Display for Feed {
+    fn fmt<W: fmt::Write>(&self, f: &mut fmt::Formatter<W>) -> fmt::Result {
+        match self {
+            Feed::Noise => write!(f, "noise"),
+            Feed::Stx => write!(f, "stx"),
+            Feed::Etx => write!(f, "etx"),
+            Feed::Run => write!(f, "run"),
+        }
     }
 }
 
@@ -108,96 +118,68 @@ fn arrival(feed: Feed, from: usize) -> [u8; 4096]
     requires { from < 1048576 }
 {
     let mut bytes = io::buffer();
-    for i in 0..4096 {
-        bytes[i] = byte_at(feed, from + i);
+    for (i, byte) in bytes.iter_mut().enumerate() {
+        *byte = byte_at(feed, from + i);
     }
     bytes
 }
 
-// How many slices an arrival hands out.
-fn slices_of(receiver: &mut Receiver<'_>, arrived: &[u8]) -> usize
-    ensures { result ≤ length arrived.now }
-{
-    let mut area = [0u8; 255];
-    let mut slices = 0;
-    let mut i = 0;
-    // A `while`: each step takes as many bytes as its slice has.
-    while i < arrived.len() {
-        let t = take_turn(receiver, arrived, i, &mut area);
-        i = t.next;
-        if t.slice.is_some() {
-            slices += 1;
-        }
-    }
-    slices
-}
-
 // Feeds 256 arrivals from fresh state; prints how many slices they hand out, and how many bytes are held then.
-fn put_feed(feed: Feed) {
+fn put_feed(rt: &impl Print, feed: Feed) {
     let mut held = [0u8; 255];
     let mut count = 0u8;
-    let mut slices = 0;
+    let mut slices = 0u64;
+    // The sum saturates, since no clause says how often a closure is called.
     for k in 0..256 {
         let bytes = arrival(feed, k * 4096);
         let mut receiver = Receiver {
             held: &mut held,
             count: &mut count,
         };
-        slices += slices_of(&mut receiver, &bytes);
+        each_slice(&mut receiver, &bytes, |_| slices = slices.saturating_add(1));
     }
-    put_name(feed);
-    put_whole(slices as u64);
-    put(b" ");
-    put_whole(count as u64);
-    put(b"\n");
+    show(rt, format_args!("{feed} {slices} {count}\n"));
 }
 
-// A call by hand, with an area of `room` bytes: its number, what it took, the length of its slice, 0 for none, and the
-// count that it left.
-fn put_call(held: &mut [u8; 255], count: &mut u8, arrived: &[u8], room: usize)
+// A call by hand, with an area of `room` bytes: its number, what it took, the length of its slice, and the count that
+// it left.
+fn put_call(rt: &impl Print, receiver: &mut Receiver<'_>, arrived: &[u8], room: usize)
     requires { room ≤ 300 }
 {
     let mut area = [0u8; 300];
-    let mut receiver = Receiver { held, count };
-    put(b"call ");
-    match receiver.receive(arrived, &mut area[..room]) {
-        Ok(got) => {
-            put(b"0 ");
-            put_whole(got.taken as u64);
-            put(b" ");
-            put_whole(got.slice.unwrap_or(0) as u64);
-        }
-        Err(refusal) => {
-            put_whole(refusal.number() as u64);
-            put(b" 0 0");
-        }
-    }
-    put(b" ");
-    put_whole(*receiver.count as u64);
-    put(b"\n");
+    let r = receiver.receive(arrived, &mut area[..room]);
+    let count = *receiver.count;
+    show(
+        rt,
+        format_args!("call {} {} {} {count}\n", r.number, r.taken, r.length),
+    );
 }
 
-fn put_calls() {
+fn put_calls(rt: &impl Print) {
     let mut held = [0u8; 255];
     let mut count = 0u8;
+    let mut receiver = Receiver {
+        held: &mut held,
+        count: &mut count,
+    };
     let rest = b"\x20\x4C\x4E\x54\x20\x35\x03\x51\x02";
-    put_call(&mut held, &mut count, b"\x02\x31", 255);
-    put_call(&mut held, &mut count, rest, 254);
-    put_call(&mut held, &mut count, rest, 0);
-    put_call(&mut held, &mut count, rest, 255);
-    put_call(&mut held, &mut count, b"\x02", 300);
-    put_call(&mut held, &mut count, b"", 255);
-    count = 255;
-    put_call(&mut held, &mut count, b"\x03\x51", 255);
+    put_call(rt, &mut receiver, b"\x02\x31", 255);
+    put_call(rt, &mut receiver, rest, 254);
+    put_call(rt, &mut receiver, rest, 0);
+    put_call(rt, &mut receiver, rest, 255);
+    put_call(rt, &mut receiver, b"\x02", 300);
+    put_call(rt, &mut receiver, b"", 255);
+    *receiver.count = 255;
+    put_call(rt, &mut receiver, b"\x03\x51", 255);
 }
 
-fn main() {
+fn main(rt: HostRuntime) {
     let mut input = io::large_buffer();
     let got = io::read_full(STDIN_FILENO, &mut input);
-    put_cuts(front(&input, got));
-    put_feed(Feed::Noise);
-    put_feed(Feed::Stx);
-    put_feed(Feed::Etx);
-    put_feed(Feed::Run);
-    put_calls();
+    put_cuts(&rt, front(&input, got));
+    put_feed(&rt, Feed::Noise);
+    put_feed(&rt, Feed::Stx);
+    put_feed(&rt, Feed::Etx);
+    put_feed(&rt, Feed::Run);
+    put_calls(&rt);
 }

@@ -6,11 +6,13 @@
 use commands::request::Request;
 use harl::message::read_request;
 use lines::reader::read_line;
-use print::texts::put_step;
-use print::{STDIN_FILENO, count, front, part, put, put_bits, put_position, put_two, put_whole};
+use print::input::each_line;
+use print::texts::Texts;
+use print::words::{count, word};
+use print::{Place, front, show};
 use readings::convert::{Converted, Reading};
 use readings::reply::read_converted;
-use refusals::refusal::Refused;
+use std::fmt;
 
 // The bits of a double; of one that is no number, which no reading is, those of a quiet NaN.
 fn bits_of(x: f64) -> u64 {
@@ -20,123 +22,83 @@ fn bits_of(x: f64) -> u64 {
     x.to_bits()
 }
 
-fn put_double(x: f64) {
-    put(b" ");
-    put_bits(bits_of(x));
+// A double by the hexadecimal digits of its bits.
+#[derive(Clone, Copy)]
+struct Bits(f64);
+
+impl fmt::Display for Bits {
+    fn fmt<W: fmt::Write>(&self, f: &mut fmt::Formatter<W>) -> fmt::Result {
+        let bits = bits_of(self.0);
+        write!(f, "{bits:016X}")
+    }
 }
 
-fn put_reading(reading: Reading) {
-    match reading {
-        Reading::Seconds(x) => {
-            put(b"seconds");
-            put_double(x);
-        }
-        Reading::Millimetres(row) => {
-            put(b"millimetres");
-            put_double(row.x);
-            put_double(row.y);
-            put_double(row.z);
-            put_double(row.w);
-        }
-        Reading::Count(x) => {
-            put(b"count");
-            put_double(x);
+// Numbers as doubles, behind what they are.
+#[derive(Clone, Copy)]
+struct Numbers(Reading);
+
+impl fmt::Display for Numbers {
+    fn fmt<W: fmt::Write>(&self, f: &mut fmt::Formatter<W>) -> fmt::Result {
+        match self.0 {
+            Reading::Seconds(x) => write!(f, "seconds {}", Bits(x)),
+            Reading::Millimetres(row) => {
+                let (x, y, z, w) = (Bits(row.x), Bits(row.y), Bits(row.z), Bits(row.w));
+                write!(f, "millimetres {x} {y} {z} {w}")
+            }
+            Reading::Count(x) => write!(f, "count {}", Bits(x)),
         }
     }
 }
 
-fn put_converted(what: Converted) {
-    match what {
-        Converted::Reading(reading) => put_reading(reading),
-        Converted::Step(n, step) => {
-            put(b"step ");
-            put_whole(n as u64);
-            put_step(step);
-        }
-        Converted::Status(n) => {
-            put(b"status ");
-            put_two(n);
+// What a reply carries.
+#[derive(Clone, Copy)]
+struct Carried(Converted);
+
+impl fmt::Display for Carried {
+    fn fmt<W: fmt::Write>(&self, f: &mut fmt::Formatter<W>) -> fmt::Result {
+        match self.0 {
+            Converted::Reading(reading) => Numbers(reading).fmt(f),
+            Converted::Step(n, step) => write!(f, "step {n}{}", Texts(step)),
+            Converted::Status(n) => write!(f, "status {n:02}"),
         }
     }
 }
 
-// The number and the position of a refusal, and the end of the line.
-fn put_refused(refused: Refused) {
-    put_two(refused.refusal.number());
-    put_position(refused.position);
-}
-
-fn answer_reply(slice: &[u8], station: u8, request: Request) {
+fn answer_reply(rt: &impl Print, slice: &[u8], station: u8, request: Request) {
     match read_converted(slice, station, request) {
-        Ok(what) => {
-            put(b"00 ");
-            put_converted(what);
-            put(b"\n");
-        }
-        Err(refused) => put_refused(refused),
+        Ok(what) => show(rt, format_args!("00 {}\n", Carried(what))),
+        Err(refused) => show(rt, format_args!("{}\n", Place(refused))),
     }
 }
 
 // Answers a request and its reply.
-fn answer_pair(request: &[u8], reply: &[u8]) {
+fn answer_pair(rt: &impl Print, request: &[u8], reply: &[u8]) {
     match read_request(request) {
-        Ok(asked) => answer_reply(reply, asked.station, asked.request),
-        Err(refused) => {
-            put(b"asked ");
-            put_refused(refused);
-        }
+        Ok(asked) => answer_reply(rt, reply, asked.station, asked.request),
+        Err(refused) => show(rt, format_args!("asked {}\n", Place(refused))),
     }
 }
 
 // Answers a line of two slices in hexadecimal capitals with one space between them; any other is no pair.
-fn answer_line(line: &[u8]) {
+fn answer_line(rt: &impl Print, line: &[u8]) {
     let mut request = [0u8; 256];
     let mut reply = [0u8; 256];
     if count(line, b' ') != 1 {
-        put(b"--\n");
+        show(rt, "--\n");
         return;
     }
-    let Some(m) = read_line(part(line, b' ', 0), &mut request) else {
-        put(b"--\n");
-        return;
-    };
-    let Some(n) = read_line(part(line, b' ', 1), &mut reply) else {
-        put(b"--\n");
+    let Some(m) = read_line(word(line, 0), &mut request) else {
+        show(rt, "--\n");
         return;
     };
-    answer_pair(front(&request, m), front(&reply, n));
+    let Some(n) = read_line(word(line, 1), &mut reply) else {
+        show(rt, "--\n");
+        return;
+    };
+    answer_pair(rt, front(&request, m), front(&reply, n));
 }
 
-// Takes bytes of input: LF ends the line that is held, and any other byte is part of it. No more than 1,026 are held: a
-// line over 1,025 bytes is no pair, whatever follows. Returns how many bytes are then held.
-fn answer_bytes(input: &[u8], held: &mut [u8; 1026], start: usize) -> usize {
-    let mut n = start;
-    for b in input {
-        if *b == b'\n' {
-            answer_line(front(held, n));
-            n = 0;
-        } else if n < 1026 {
-            held[n] = *b;
-            n += 1;
-        }
-    }
-    n
-}
-
-// Answers every line; a last one without LF counts if it is not empty. A proved loop has to end, and nothing says that the
-// input does, so the blocks are counted up to a number that no run reaches.
-fn main() {
-    let mut input = io::large_buffer();
-    let mut held = [0u8; 1026];
-    let mut n = 0;
-    for _ in 0..u64::MAX {
-        let got = io::read_full(STDIN_FILENO, &mut input);
-        if got == 0 {
-            break;
-        }
-        n = answer_bytes(front(&input, got), &mut held, n);
-    }
-    if 0 < n {
-        answer_bytes(b"\n", &mut held, n);
-    }
+// Answers every line of standard input. A line over 1,025 bytes is no pair, whatever follows.
+fn main(rt: HostRuntime) {
+    each_line::<1026, _>(|line| answer_line(&rt, line));
 }

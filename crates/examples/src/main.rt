@@ -8,26 +8,16 @@ mod numerals; // numerals.rt: numbers read and written
 mod run; // run.rt: the script run line by line
 
 use crate::run::run;
-use tables::arms::Arms;
+use examples_gateway::snapshot::Tables;
 
 // p are the START programs, s the stations.
-fn main() {
-    let mut arms = Arms {
-        timers: &mut [[0; 16]; 4],
-        registers: &mut [[0; 64]; 4],
-        x: &mut [[0; 100]; 4],
-        y: &mut [[0; 100]; 4],
-        z: &mut [[0; 100]; 4],
-        w: &mut [[0; 100]; 4],
-        inputs: &mut [[0; 32]; 4],
-        outputs: &mut [[0; 32]; 4],
-        memory: &mut [[0; 16]; 4],
-        on: &mut [0; 4],
-    };
+fn main(rt: HostRuntime) {
+    let mut tables = Tables::filled(0);
     let mut p = [0u8; 40960];
     let mut s = [0u8; 4];
     run(
-        &mut arms,
+        &rt,
+        &mut tables,
         &mut p,
         &mut s,
         b"# Check 2: no bytes, and 5 bytes.\0\
@@ -79,12 +69,13 @@ fn main() {
           W\0\
           W-1\0",
     );
-    frames::read_long();
-    frames::written();
-    numerals::hundredths_written();
-    numerals::wholes_written();
+    frames::read_long(&rt);
+    frames::written(&rt);
+    numerals::hundredths_written(&rt);
+    numerals::wholes_written(&rt);
     run(
-        &mut arms,
+        &rt,
+        &mut tables,
         &mut p,
         &mut s,
         b"# Requests of each kind. One that is accepted is written too.\0\
@@ -225,7 +216,8 @@ fn main() {
           yu\0",
     );
     run(
-        &mut arms,
+        &rt,
+        &mut tables,
         &mut p,
         &mut s,
         b"# Row 99 is the last. A refused row changes no arm's tables.\0\
@@ -495,7 +487,8 @@ fn main() {
           R1 SNBD -1 0 15 16 -1 0 255 256\0",
     );
     run(
-        &mut arms,
+        &rt,
+        &mut tables,
         &mut p,
         &mut s,
         b"# START programs (document 02, E3): typed steps with no data to four, texts of 1 to 8 characters. The last has 58 bytes.\0\

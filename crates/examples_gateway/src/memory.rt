@@ -1,5 +1,6 @@
 // The memory of START programs: what stands in it, bytes written into it as no call does, and whether a call touched it.
-use print::{put, put_bytes, put_whole};
+use print::Bytes;
+use std::fmt;
 
 // The byte that fills a lent memory before a call.
 pub const FILL: u8 = 7;
@@ -10,33 +11,42 @@ fn is_filled(p: &[u8], b: u8) -> bool {
 }
 
 // Every byte that is not 0, a run of them after its place.
-pub fn put_memory(p: &[u8]) {
-    put(b"memory");
-    if is_filled(p, 0) {
-        put(b" zero");
-    }
-    let mut before = 0;
-    for (k, b) in p.iter().enumerate() {
-        if *b != 0 {
-            if before == 0 {
-                put(b" @");
-                put_whole(k as u64);
-            }
-            put(b" ");
-            put_bytes(&[*b]);
+#[derive(Clone, Copy)]
+pub struct Memory<'a>(pub &'a [u8]);
+
+impl fmt::Display for Memory<'_> {
+    fn fmt<W: fmt::Write>(&self, f: &mut fmt::Formatter<W>) -> fmt::Result {
+        write!(f, "memory")?;
+        if is_filled(self.0, 0) {
+            write!(f, " zero")?;
         }
-        before = *b;
+        let mut before = 0;
+        for (k, b) in self.0.iter().enumerate() {
+            if before == 0 && *b != 0 {
+                write!(f, " @{k}")?;
+            }
+            if *b != 0 {
+                write!(f, " {}", Bytes(&[*b]))?;
+            }
+            before = *b;
+        }
+        Ok(())
     }
 }
 
-// Says of a lent memory that was filled what a call left there.
-pub fn put_lent(p: &[u8]) {
-    if is_filled(p, FILL) {
-        put(b", memory untouched");
-    } else if is_filled(p, 0) {
-        put(b", memory zero");
-    } else {
-        put(b", MEMORY CHANGED");
+// What a call left in a lent memory that was filled.
+#[derive(Clone, Copy)]
+pub struct Lent<'a>(pub &'a [u8]);
+
+impl fmt::Display for Lent<'_> {
+    fn fmt<W: fmt::Write>(&self, f: &mut fmt::Formatter<W>) -> fmt::Result {
+        if is_filled(self.0, FILL) {
+            write!(f, ", memory untouched")
+        } else if is_filled(self.0, 0) {
+            write!(f, ", memory zero")
+        } else {
+            write!(f, ", MEMORY CHANGED")
+        }
     }
 }
 

@@ -1,57 +1,37 @@
 // A line of the script as the step that it asks for.
-use print::{part, put, put_slice};
-use text::field::At;
-use text::whole::read_whole;
+use commands::request::Port;
+use print::words::{byte, number, part, stations, word};
 
-// What a line asks for.
+// What a line asks for. Stations are those that setup is given.
 #[derive(Clone, Copy)]
-pub enum Step {
+pub enum Step<'a> {
     // "setup" and four stations: a new box, in the memory of the last.
-    Setup,
+    Setup([u16; 4]),
     // "other setup" and four stations: a new box in other memory.
-    Other,
+    Other([u16; 4]),
     // "input slot A port B byte C": an input call.
-    Input,
+    Input(usize, Port, u8),
     // "outputs on slot A": how many outputs are on.
-    Outputs,
+    Outputs(usize),
     // "lent A setup" and four stations: a new box in other memory, A bytes of it for START programs.
-    SetupLent,
+    SetupLent(u16, [u16; 4]),
     // "lent A serving =" and a slice: it is served with other A bytes for START programs.
-    ServeLent,
-    // "bytes slot A step B text C =" and bytes: they are written into the START programs.
-    Bytes,
+    ServeLent(u16, &'a [u8]),
+    // "bytes slot A step B text C =" and bytes: they are written into the START programs, from an index on.
+    Bytes(usize, &'a [u8]),
     // "memory": what stands in the START programs.
     Memory,
     // "N" and a slice: it is served with a reply area of 63 bytes.
-    Narrow,
+    Narrow(&'a [u8]),
     // "R" and a row of the table of ranges: a call for each end of each range, and one beyond.
-    Ranges,
+    Ranges(&'a [u8]),
     // "S" and a slice: it is served with a reply area of 64 bytes.
-    Serve,
-}
-
-// Word k of a line as a number.
-pub fn number(line: &[u8], k: usize) -> u16 {
-    read_whole(At::front(part(line, b' ', k))).map_or(0, |field| field.value)
-}
-
-pub fn byte(line: &[u8], k: usize) -> u8 {
-    (number(line, k) % 256) as u8
-}
-
-// The four stations that a line says from word k on.
-pub fn stations(line: &[u8], k: u8) -> [u16; 4] {
-    let first = k as usize;
-    let a = number(line, first);
-    let b = number(line, first + 1);
-    let c = number(line, first + 2);
-    let d = number(line, first + 3);
-    [a, b, c, d]
+    Serve(&'a [u8]),
 }
 
 // A size that word 1 of a line says: that of the START programs, one byte less, one more, or none.
-pub fn size(line: &[u8]) -> u16 {
-    match part(line, b' ', 1) {
+fn size(line: &[u8]) -> u16 {
+    match word(line, 1) {
         b"40959" => 40959,
         b"40960" => 40960,
         b"40961" => 40961,
@@ -60,12 +40,12 @@ pub fn size(line: &[u8]) -> u16 {
 }
 
 // What stands behind the first "=".
-pub fn told(line: &[u8]) -> &[u8] {
+fn told(line: &[u8]) -> &[u8] {
     part(line, b'=', 1)
 }
 
 // The line from its second byte on.
-pub fn rest(line: &[u8]) -> &[u8] {
+fn rest(line: &[u8]) -> &[u8] {
     match line.split_first() {
         Some((_, rest)) => rest,
         None => line,
@@ -73,51 +53,37 @@ pub fn rest(line: &[u8]) -> &[u8] {
 }
 
 // A line that begins with "lent".
-fn lent(line: &[u8]) -> Step {
-    match part(line, b' ', 2) {
-        b"setup" => Step::SetupLent,
-        _ => Step::ServeLent,
+fn lent(line: &[u8]) -> Step<'_> {
+    match word(line, 2) {
+        b"setup" => Step::SetupLent(size(line), stations(line, 3)),
+        _ => Step::ServeLent(size(line), told(line)),
     }
 }
 
-pub fn step_of(line: &[u8]) -> Step {
-    match part(line, b' ', 0) {
-        b"setup" => Step::Setup,
-        b"other" => Step::Other,
-        b"input" => Step::Input,
-        b"outputs" => Step::Outputs,
+// Where a text of a step of a slot's program stands, as a line of bytes says.
+fn place(line: &[u8]) -> usize {
+    number(line, 2) as usize * 10240 + number(line, 4) as usize * 40 + number(line, 6) as usize * 8
+}
+
+// A line that begins with "input".
+fn input(line: &[u8]) -> Step<'_> {
+    let (slot, port) = (number(line, 2), number(line, 4));
+    Step::Input(slot as usize, Port(port), byte(line, 6))
+}
+
+pub fn step_of(line: &[u8]) -> Step<'_> {
+    match word(line, 0) {
+        b"setup" => Step::Setup(stations(line, 1)),
+        b"other" => Step::Other(stations(line, 2)),
+        b"input" => input(line),
+        b"outputs" => Step::Outputs(number(line, 3) as usize),
         b"lent" => lent(line),
-        b"bytes" => Step::Bytes,
+        b"bytes" => Step::Bytes(place(line), told(line)),
         b"memory" => Step::Memory,
         _ => match line.first() {
-            Some(b'N') => Step::Narrow,
-            Some(b'R') => Step::Ranges,
-            _ => Step::Serve,
+            Some(b'N') => Step::Narrow(rest(line)),
+            Some(b'R') => Step::Ranges(rest(line)),
+            _ => Step::Serve(rest(line)),
         },
     }
-}
-
-// What stands before a step's answer.
-pub fn put_label(step: Step, line: &[u8]) {
-    match step {
-        Step::Ranges | Step::Memory => {}
-        Step::Bytes => put_slice(line),
-        Step::ServeLent => {
-            put(b"lent ");
-            put(part(line, b' ', 1));
-            put(b" serving ");
-            put_slice(told(line));
-        }
-        Step::Narrow => put_serving(b"serving in 63 bytes ", line),
-        Step::Serve => put_serving(b"serving ", line),
-        _ => {
-            put(line);
-            put(b": ");
-        }
-    }
-}
-
-fn put_serving(label: &[u8], line: &[u8]) {
-    put(label);
-    put_slice(rest(line));
 }

@@ -1,81 +1,51 @@
-// The entries of every table in one list, by which two states of the tables are compared.
-ghost use Rattle.std.specs.Prelude.{◌<◌};
-
-use crate::script::Step;
-use print::put;
+// The tables of a box, which are lent to each call, and by which two states of the box are compared.
 use tables::arms::Arms;
 
-// Entry n of all the tables, one after the other, of each the four arms' one after the other.
-fn entry(arms: &Arms<'_>, n: usize) -> i32
-    requires { n < 2244 }
-{
-    let (timers, registers) = (&*arms.timers, &*arms.registers);
-    let (x, y, z, w) = (&*arms.x, &*arms.y, &*arms.z, &*arms.w);
-    let (inputs, outputs) = (&*arms.inputs, &*arms.outputs);
-    let (memory, on) = (&*arms.memory, &*arms.on);
-    if n < 64 {
-        return timers[n / 16][n % 16] as i32;
-    }
-    if n < 320 {
-        return registers[(n - 64) / 64][(n - 64) % 64] as i32;
-    }
-    if n < 720 {
-        return x[(n - 320) / 100][(n - 320) % 100];
-    }
-    if n < 1120 {
-        return y[(n - 720) / 100][(n - 720) % 100];
-    }
-    if n < 1520 {
-        return z[(n - 1120) / 100][(n - 1120) % 100];
-    }
-    if n < 1920 {
-        return w[(n - 1520) / 100][(n - 1520) % 100];
-    }
-    if n < 2048 {
-        return inputs[(n - 1920) / 32][(n - 1920) % 32] as i32;
-    }
-    if n < 2176 {
-        return outputs[(n - 2048) / 32][(n - 2048) % 32] as i32;
-    }
-    if n < 2240 {
-        return memory[(n - 2176) / 16][(n - 2176) % 16] as i32;
-    }
-    on[n - 2240] as i32
+#[derive(Clone, Copy, PartialEq, Eq)]
+pub struct Tables {
+    timers: [[u16; 16]; 4],
+    registers: [[u16; 64]; 4],
+    x: [[i32; 100]; 4],
+    y: [[i32; 100]; 4],
+    z: [[i32; 100]; 4],
+    w: [[i32; 100]; 4],
+    inputs: [[u8; 32]; 4],
+    outputs: [[u8; 32]; 4],
+    memory: [[u8; 16]; 4],
+    on: [u16; 4],
 }
 
-// Every entry of the tables.
-pub fn snapshot(arms: &Arms<'_>) -> [i32; 2244] {
-    let mut entries = [0; 2244];
-    for n in 0..2244 {
-        entries[n] = entry(arms, n);
+impl Tables {
+    // Tables of which every entry is n.
+    pub fn filled(n: u8) -> Tables {
+        let (word, value) = (u16::from(n), i32::from(n));
+        Tables {
+            timers: [[word; 16]; 4],
+            registers: [[word; 64]; 4],
+            x: [[value; 100]; 4],
+            y: [[value; 100]; 4],
+            z: [[value; 100]; 4],
+            w: [[value; 100]; 4],
+            inputs: [[n; 32]; 4],
+            outputs: [[n; 32]; 4],
+            memory: [[n; 16]; 4],
+            on: [word; 4],
+        }
     }
-    entries
-}
 
-// Says of the tables so named whether every entry is 0.
-pub fn put_zero(name: &[u8], entries: &[i32; 2244]) {
-    put(name);
-    if entries.iter().all(|e| *e == 0) {
-        put(b" zero");
-    } else {
-        put(b" NOT ZERO");
+    // Lends the tables.
+    pub fn arms(&mut self) -> Arms<'_> {
+        Arms {
+            timers: &mut self.timers,
+            registers: &mut self.registers,
+            x: &mut self.x,
+            y: &mut self.y,
+            z: &mut self.z,
+            w: &mut self.w,
+            inputs: &mut self.inputs,
+            outputs: &mut self.outputs,
+            memory: &mut self.memory,
+            on: &mut self.on,
+        }
     }
-}
-
-fn put_same(before: &[i32; 2244], after: &[i32; 2244]) {
-    if before == after {
-        put(b", tables unchanged");
-    } else {
-        put(b", tables changed");
-    }
-}
-
-// What a step left in the tables: those of a new box are zero, and others changed or not.
-pub fn put_tables(step: Step, before: &[i32; 2244], after: &[i32; 2244]) {
-    match step {
-        Step::Ranges => return,
-        Step::Setup => put_zero(b", tables", after),
-        _ => put_same(before, after),
-    }
-    put(b"\n");
 }

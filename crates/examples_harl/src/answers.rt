@@ -1,10 +1,12 @@
 // Replies written and read back, and slices read as replies.
-use crate::cases::case_of;
+ghost use Rattle.std.specs.Prelude.{◌≤◌};
+
+use crate::cases::asked_of;
 use crate::typed_steps::step_of;
-use crate::words::{put_asked, put_outcome};
+use crate::words::{Carried, Wanted};
 use commands::request::Row;
 use harl::message::{read_reply, write_reply};
-use print::{front, put, put_answer, put_refused, put_slice};
+use print::{Place, Slice, answer, front, show};
 use replies::reply::{Data, Outcome};
 
 // What a reply carries, and the letter of the request that it answers.
@@ -12,32 +14,15 @@ use replies::reply::{Data, Outcome};
 struct Reply(Outcome, u8);
 
 // Reads a slice as the reply to the request of a letter.
-pub fn read(letter: u8, slice: &[u8]) {
-    let case = case_of(letter);
-    let request = case.1;
-    put(b"reply ");
-    put_slice(slice);
-    put_asked(b" to ", case.0, request);
-    match read_reply(slice, case.0, request) {
-        Ok(outcome) => {
-            put_outcome(b": 00 ", outcome);
-            put(b"\n");
-        }
-        Err(refused) => put_refused(refused),
-    }
-}
-
-// Writes a reply into an area that is filled with AAh. One that is written is read back.
-fn write(area: &mut [u8], outcome: Outcome, letter: u8) {
-    let case = case_of(letter);
-    let request = case.1;
-    put_outcome(b"reply written ", outcome);
-    put_asked(b" to ", case.0, request);
-    let written = write_reply(area, case.0, request, outcome);
-    put_answer(written, area);
-    put(b"\n");
-    if let Ok(length) = written {
-        read(letter, front(area, length));
+pub fn read(rt: &impl Print, letter: u8, slice: &[u8]) {
+    let asked = asked_of(letter);
+    show(
+        rt,
+        format_args!("reply {} to {}: ", Slice(slice), Wanted(asked)),
+    );
+    match read_reply(slice, asked.station, asked.request) {
+        Ok(outcome) => show(rt, format_args!("00 {}\n", Carried(outcome))),
+        Err(refused) => show(rt, format_args!("{}\n", Place(refused))),
     }
 }
 
@@ -119,20 +104,20 @@ fn reply_of(letter: u8) -> Reply {
     }
 }
 
-fn write_reply_of(area: &mut [u8], letter: u8) {
-    let reply = reply_of(letter);
-    let outcome = reply.0;
-    write(area, outcome, reply.1);
-}
-
-// Writes the reply of a letter into an area of 64 bytes.
-pub fn write_typed(letter: u8) {
-    let mut area = [0xaa; 64];
-    write_reply_of(&mut area, letter);
-}
-
-// Writes it into an area of 63 bytes, which is refused before anything else is.
-pub fn write_narrow(letter: u8) {
-    let mut area = [0xaa; 63];
-    write_reply_of(&mut area, letter);
+// Writes the reply of a letter into an area of N bytes, filled with AAh. One that is written is read back.
+pub fn write<const N: usize>(rt: &impl Print, letter: u8)
+    requires { N ≤ 64 }
+{
+    let Reply(outcome, request) = reply_of(letter);
+    let asked = asked_of(request);
+    let mut area = [0xaa; N];
+    let written = write_reply(&mut area, asked.station, asked.request, outcome);
+    show(
+        rt,
+        format_args!("reply written {} to {}", Carried(outcome), Wanted(asked)),
+    );
+    show(rt, format_args!("{}\n", answer(written, &area)));
+    if let Ok(length) = written {
+        read(rt, request, front(&area, length));
+    }
 }

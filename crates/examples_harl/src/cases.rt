@@ -1,25 +1,28 @@
 // The typed requests of the examples, each by a letter.
 use crate::typed_steps::step_of;
 use commands::request::{Load, Port, Request, Row, Signal, Store};
+use harl::message::Asked;
 
-// A request, and the station that it is for.
-#[derive(Clone, Copy)]
-pub struct Case(pub u8, pub Request);
-
-fn load(station: u8, load: Load) -> Case {
-    Case(station, Request::Load(load))
+fn load(station: u8, load: Load) -> Asked {
+    Asked {
+        station,
+        request: Request::Load(load),
+    }
 }
 
-fn store(station: u8, store: Store) -> Case {
-    Case(station, Request::Store(store))
+fn store(station: u8, store: Store) -> Asked {
+    Asked {
+        station,
+        request: Request::Store(store),
+    }
 }
 
-fn row(x: i32, y: i32, z: i32, w: i32) -> Case {
+fn row(x: i32, y: i32, z: i32, w: i32) -> Asked {
     store(1, Store::Row(0, Row { x, y, z, w }))
 }
 
 // Small letters: requests for steps, an SNA of step 7 with the step of that letter unless another is given.
-fn step_case(letter: u8) -> Case {
+fn step_asked(letter: u8) -> Asked {
     match letter {
         // The longest request.
         b'e' => store(99, Store::Step(255, step_of(letter))),
@@ -37,9 +40,9 @@ fn step_case(letter: u8) -> Case {
     }
 }
 
-pub fn case_of(letter: u8) -> Case {
+pub fn asked_of(letter: u8) -> Asked {
     if b'a' <= letter {
-        return step_case(letter);
+        return step_asked(letter);
     }
     match letter {
         // P2.

@@ -1,46 +1,42 @@
 // Requests read from frames, and written.
-use crate::cases::case_of;
-use crate::words::put_asked;
-use commands::request::Request;
-use harl::message::{read_request, write_request};
-use print::{put, put_answer, put_refused, put_slice};
+ghost use Rattle.std.specs.Prelude.{◌≤◌};
 
-// Writes a request into an area that is filled with AAh.
-fn write(area: &mut [u8], station: u8, request: Request) {
-    put_asked(b"request written ", station, request);
-    put_answer(write_request(area, station, request), area);
-    put(b"\n");
+use crate::cases::asked_of;
+use crate::words::Wanted;
+use harl::message::{Asked, read_request, write_request};
+use print::{Place, Slice, answer, show};
+
+// Writes a request into an area of N bytes, filled with AAh.
+fn write_asked<const N: usize>(rt: &impl Print, asked: Asked)
+    requires { N ≤ 64 }
+{
+    let mut area = [0xaa; N];
+    let written = write_request(&mut area, asked.station, asked.request);
+    show(
+        rt,
+        format_args!(
+            "request written {}{}\n",
+            Wanted(asked),
+            answer(written, &area)
+        ),
+    );
 }
 
 // Reads a request. One that is accepted is written too.
-pub fn read(slice: &[u8]) {
-    put(b"request ");
-    put_slice(slice);
+pub fn read(rt: &impl Print, slice: &[u8]) {
+    show(rt, format_args!("request {}: ", Slice(slice)));
     match read_request(slice) {
         Ok(asked) => {
-            put_asked(b": 00 ", asked.station, asked.request);
-            put(b"\n");
-            let mut area = [0xaa; 64];
-            write(&mut area, asked.station, asked.request);
+            show(rt, format_args!("00 {}\n", Wanted(asked)));
+            write_asked::<64>(rt, asked);
         }
-        Err(refused) => put_refused(refused),
+        Err(refused) => show(rt, format_args!("{}\n", Place(refused))),
     }
 }
 
-// Writes the request of a letter into an area of 64 bytes.
-pub fn write_typed(letter: u8) {
-    let mut area = [0xaa; 64];
-    write_case(&mut area, letter);
-}
-
-// Writes it into an area of 63 bytes, which is refused before anything else is.
-pub fn write_narrow(letter: u8) {
-    let mut area = [0xaa; 63];
-    write_case(&mut area, letter);
-}
-
-fn write_case(area: &mut [u8], letter: u8) {
-    let case = case_of(letter);
-    let request = case.1;
-    write(area, case.0, request);
+// Writes the request of a letter into an area of N bytes.
+pub fn write<const N: usize>(rt: &impl Print, letter: u8)
+    requires { N ≤ 64 }
+{
+    write_asked::<N>(rt, asked_of(letter));
 }

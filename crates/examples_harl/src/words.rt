@@ -1,164 +1,101 @@
 // Typed requests, and what replies carry, in words.
 use commands::request::{Load, Request, Row, Store};
-use print::texts::put_step;
-use print::{part, put, put_signed, put_whole};
+use harl::message::Asked;
+use print::texts::Texts;
 use replies::reply::{Data, Outcome};
-use steps::step::Step;
+use std::fmt;
 
-// The values of an item: none, one, a row, or a step's texts.
+// The values of a row.
 #[derive(Clone, Copy)]
-enum Values {
-    Nothing,
-    One(i32),
-    Row(Row),
-    Step(Step),
+struct Fields(Row);
+
+impl fmt::Display for Fields {
+    fn fmt<W: fmt::Write>(&self, f: &mut fmt::Formatter<W>) -> fmt::Result {
+        let row = self.0;
+        write!(f, "{} {} {} {}", row.x, row.y, row.z, row.w)
+    }
 }
 
-// A kind, by its place among those that put_kind has; the item's number; and its values.
+// What an LN asks for: its kind and its number.
 #[derive(Clone, Copy)]
-struct Words {
-    kind: usize,
-    number: u16,
-    values: Values,
-}
+struct Loaded(Load);
 
-fn put_kind(k: usize) {
-    put(part(
-        b"timer register row input input-port output output-port memory-bit memory-port signal port status step",
-        b' ',
-        k,
-    ));
-}
-
-fn put_value(v: i32) {
-    put(b" ");
-    put_signed(v);
-}
-
-fn put_values(values: Values) {
-    match values {
-        Values::Nothing => {}
-        Values::One(v) => put_value(v),
-        Values::Row(row) => {
-            put_value(row.x);
-            put_value(row.y);
-            put_value(row.z);
-            put_value(row.w);
-        }
-        Values::Step(step) => put_step(step),
-    }
-}
-
-fn put_words(words: Words) {
-    let values = words.values;
-    put_kind(words.kind);
-    put(b" ");
-    put_whole(words.number as u64);
-    put_values(values);
-}
-
-fn loaded(kind: usize, number: u16) -> Words {
-    Words {
-        kind,
-        number,
-        values: Values::Nothing,
-    }
-}
-
-fn load_words(load: Load) -> Words {
-    match load {
-        Load::Timer(n) => loaded(0, n),
-        Load::Register(n) => loaded(1, n),
-        Load::Row(n) => loaded(2, n),
-        Load::Input(s) => loaded(3, s.0),
-        Load::InputPort(p) => loaded(4, p.0),
-        Load::Output(s) => loaded(5, s.0),
-        Load::OutputPort(p) => loaded(6, p.0),
-        Load::MemoryBit(s) => loaded(7, s.0),
-        Load::MemoryPort(p) => loaded(8, p.0),
-        Load::Step(n) => loaded(12, n),
-    }
-}
-
-fn stored(kind: usize, number: u16, v: i32) -> Words {
-    Words {
-        kind,
-        number,
-        values: Values::One(v),
-    }
-}
-
-fn step_words(number: u16, step: Step) -> Words {
-    Words {
-        kind: 12,
-        number,
-        values: Values::Step(step),
-    }
-}
-
-fn store_words(store: Store) -> Words {
-    match store {
-        Store::Timer(n, v) => stored(0, n, v),
-        Store::Register(n, v) => stored(1, n, v),
-        Store::Row(n, row) => Words {
-            kind: 2,
-            number: n,
-            values: Values::Row(row),
-        },
-        Store::Output(s, v) => stored(5, s.0, v),
-        Store::OutputPort(p, v) => stored(6, p.0, v),
-        Store::MemoryBit(s, v) => stored(7, s.0, v),
-        Store::MemoryPort(p, v) => stored(8, p.0, v),
-        Store::Step(n, step) => step_words(n, step),
-    }
-}
-
-pub fn put_request(request: Request) {
-    match request {
-        Request::Load(load) => {
-            put(b"load ");
-            put_words(load_words(load));
-        }
-        Request::Store(store) => {
-            put(b"store ");
-            put_words(store_words(store));
+impl fmt::Display for Loaded {
+    fn fmt<W: fmt::Write>(&self, f: &mut fmt::Formatter<W>) -> fmt::Result {
+        match self.0 {
+            Load::Timer(n) => write!(f, "timer {n}"),
+            Load::Register(n) => write!(f, "register {n}"),
+            Load::Row(n) => write!(f, "row {n}"),
+            Load::Input(s) => write!(f, "input {}", s.0),
+            Load::InputPort(p) => write!(f, "input-port {}", p.0),
+            Load::Output(s) => write!(f, "output {}", s.0),
+            Load::OutputPort(p) => write!(f, "output-port {}", p.0),
+            Load::MemoryBit(s) => write!(f, "memory-bit {}", s.0),
+            Load::MemoryPort(p) => write!(f, "memory-port {}", p.0),
+            Load::Step(n) => write!(f, "step {n}"),
         }
     }
 }
 
-fn put_data(kind: usize, values: Values) {
-    put_kind(kind);
-    put_values(values);
-}
+// What an SN stores: its kind, its number, and its values.
+#[derive(Clone, Copy)]
+struct Stored(Store);
 
-fn put_single(kind: usize, v: i32) {
-    put_data(kind, Values::One(v));
-}
-
-fn put_held(held: Data) {
-    match held {
-        Data::Timer(v) => put_single(0, v),
-        Data::Register(v) => put_single(1, v),
-        Data::Row(row) => put_data(2, Values::Row(row)),
-        Data::Signal(v) => put_single(9, v),
-        Data::Port(v) => put_single(10, v),
-        Data::Step(n, step) => put_words(step_words(n, step)),
+impl fmt::Display for Stored {
+    fn fmt<W: fmt::Write>(&self, f: &mut fmt::Formatter<W>) -> fmt::Result {
+        match self.0 {
+            Store::Timer(n, v) => write!(f, "timer {n} {v}"),
+            Store::Register(n, v) => write!(f, "register {n} {v}"),
+            Store::Row(n, row) => write!(f, "row {n} {}", Fields(row)),
+            Store::Output(s, v) => write!(f, "output {} {v}", s.0),
+            Store::OutputPort(p, v) => write!(f, "output-port {} {v}", p.0),
+            Store::MemoryBit(s, v) => write!(f, "memory-bit {} {v}", s.0),
+            Store::MemoryPort(p, v) => write!(f, "memory-port {} {v}", p.0),
+            Store::Step(n, step) => write!(f, "step {n}{}", Texts(step)),
+        }
     }
 }
 
-// A kind of line, and what a reply carries.
-pub fn put_outcome(what: &[u8], outcome: Outcome) {
-    put(what);
-    match outcome {
-        Outcome::Data(held) => put_held(held),
-        Outcome::Status(n) => put_single(11, n as i32),
+// A request with its station.
+#[derive(Clone, Copy)]
+pub struct Wanted(pub Asked);
+
+impl fmt::Display for Wanted {
+    fn fmt<W: fmt::Write>(&self, f: &mut fmt::Formatter<W>) -> fmt::Result {
+        let station = self.0.station;
+        match self.0.request {
+            Request::Load(load) => write!(f, "{station} load {}", Loaded(load)),
+            Request::Store(store) => write!(f, "{station} store {}", Stored(store)),
+        }
     }
 }
 
-// A kind of line, and a request with its station.
-pub fn put_asked(what: &[u8], station: u8, request: Request) {
-    put(what);
-    put_whole(station as u64);
-    put(b" ");
-    put_request(request);
+// What a reply carries.
+#[derive(Clone, Copy)]
+pub struct Carried(pub Outcome);
+
+impl fmt::Display for Carried {
+    fn fmt<W: fmt::Write>(&self, f: &mut fmt::Formatter<W>) -> fmt::Result {
+        match self.0 {
+            Outcome::Data(data) => Held(data).fmt(f),
+            Outcome::Status(n) => write!(f, "status {n}"),
+        }
+    }
+}
+
+// The data of a reply: their kind, and their values.
+#[derive(Clone, Copy)]
+struct Held(Data);
+
+impl fmt::Display for Held {
+    fn fmt<W: fmt::Write>(&self, f: &mut fmt::Formatter<W>) -> fmt::Result {
+        match self.0 {
+            Data::Timer(v) => write!(f, "timer {v}"),
+            Data::Register(v) => write!(f, "register {v}"),
+            Data::Row(row) => write!(f, "row {}", Fields(row)),
+            Data::Signal(v) => write!(f, "signal {v}"),
+            Data::Port(v) => write!(f, "port {v}"),
+            Data::Step(n, step) => write!(f, "step {n}{}", Texts(step)),
+        }
+    }
 }

@@ -5,7 +5,6 @@
 // they are 1 2 3 4.
 #![tactic(auto)]
 
-ghost use Rattle.std.specs.Prelude.{◌*◌, ◌≤◌, length};
 ghost use Rattle.io.specs.Counts.{IsPrefixLen};
 
 use link::arrived::serve_arrived;
@@ -17,23 +16,16 @@ use tables::arms::Arms;
 use text::field::At;
 use text::whole::read_whole;
 
-// The descriptor of standard error.
-const STDERR_FILENO: i32 = 2;
-
 // An argument that is no whole number.
 #[derive(Clone, Copy)]
 struct NoNumber;
 
-// Writes on standard error what is wrong with the arguments, and what they should be.
-fn complain(what: &[u8]) {
-    io::write_all(STDERR_FILENO, b"line: ");
-    io::write_all(STDERR_FILENO, what);
-    io::write_all(STDERR_FILENO, b"\nusage: line [STATION]...\n");
-    io::write_all(
-        STDERR_FILENO,
-        b"Up to four stations, 0 to 99, no other than 0 twice; 0 is an unfitted slot. ",
-    );
-    io::write_all(STDERR_FILENO, b"Without any: 1 2 3 4.\n");
+// Writes on standard error what is wrong with the arguments, and what they should be. Where that cannot be written, nothing is
+// left to tell.
+fn complain(rt: &HostRuntime, what: &str) {
+    let usage = "usage: line [STATION]...\n\
+        Up to four stations, 0 to 99, no other than 0 twice; 0 is an unfitted slot. Without any: 1 2 3 4.";
+    if eprintln!(rt; "line: {what}\n{usage}").is_err() {}
 }
 
 // The whole number that a text is.
@@ -60,17 +52,17 @@ fn read_stations(rt: &HostRuntime) -> Option<[u16; 4]> {
         return Some([1, 2, 3, 4]);
     }
     if read_argument(rt, 5).is_some() {
-        complain(b"more than four arguments");
+        complain(rt, "more than four arguments");
         return None;
     }
     let mut want = [0; 4];
-    for i in 0..4 {
+    for (i, place) in want.iter_mut().enumerate() {
         match read_argument(rt, i + 1) {
             Some(Ok(station)) => {
-                want[i] = station;
+                *place = station;
             }
             Some(Err(NoNumber)) => {
-                complain(b"an argument is no number of one to four digits");
+                complain(rt, "an argument is no number of one to four digits");
                 return None;
             }
             None => {
@@ -106,11 +98,9 @@ fn serve_some(
     programs: &mut [u8],
     stations: &[u8; 4],
     receiver: &mut Receiver<'_>,
-    input: &mut [u8],
-    out: &mut [u8],
-) -> bool
-    requires { 64 * length input.old ≤ length out.old }
-{
+    input: &mut [u8; 1024],
+    out: &mut [u8; 65536],
+) -> bool {
     let n = read_block(rt, input);
     if n == 0 {
         return false;
@@ -132,11 +122,9 @@ fn serve_line(
     arms: &mut Arms<'_>,
     programs: &mut [u8],
     stations: &[u8; 4],
-    input: &mut [u8],
-    out: &mut [u8],
-)
-    requires { 64 * length input.old ≤ length out.old }
-{
+    input: &mut [u8; 1024],
+    out: &mut [u8; 65536],
+) {
     let mut held = [0u8; 255];
     let mut count = 0u8;
     let mut receiver = Receiver {
@@ -155,34 +143,24 @@ fn main(rt: HostRuntime) {
     let Some(want) = read_stations(&rt) else {
         return;
     };
-    let mut timers = [[0u16; 16]; 4];
-    let mut registers = [[0u16; 64]; 4];
-    let mut x = [[0i32; 100]; 4];
-    let mut y = [[0i32; 100]; 4];
-    let mut z = [[0i32; 100]; 4];
-    let mut w = [[0i32; 100]; 4];
-    let mut inputs = [[0u8; 32]; 4];
-    let mut outputs = [[0u8; 32]; 4];
-    let mut memory = [[0u8; 16]; 4];
-    let mut on = [0u16; 4];
+    let mut arms = Arms {
+        timers: &mut [[0; 16]; 4],
+        registers: &mut [[0; 64]; 4],
+        x: &mut [[0; 100]; 4],
+        y: &mut [[0; 100]; 4],
+        z: &mut [[0; 100]; 4],
+        w: &mut [[0; 100]; 4],
+        inputs: &mut [[0; 32]; 4],
+        outputs: &mut [[0; 32]; 4],
+        memory: &mut [[0; 16]; 4],
+        on: &mut [0; 4],
+    };
     let mut programs = [0u8; 40960];
     let mut stations = [0u8; 4];
     let mut turn = 0;
-    let mut arms = Arms {
-        timers: &mut timers,
-        registers: &mut registers,
-        x: &mut x,
-        y: &mut y,
-        z: &mut z,
-        w: &mut w,
-        inputs: &mut inputs,
-        outputs: &mut outputs,
-        memory: &mut memory,
-        on: &mut on,
-    };
     let set_up = setup(&mut arms, &mut programs, &mut stations, &mut turn, want);
     if set_up.is_err() {
-        complain(b"a station is above 99, or given twice");
+        complain(&rt, "a station is above 99, or given twice");
         return;
     }
     let mut input = [0u8; 1024];

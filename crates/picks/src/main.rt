@@ -9,60 +9,55 @@
 // with buffers in hexadecimal capitals, "-" for an empty one, and numbers of up to four digits.
 #![tactic(auto)]
 
-use chooser::choose::{Buffer, choose};
-use commands::request::Port;
+use chooser::choose::{Buffer, Port, choose};
+use commands::request;
 use hosts::next::serve_next;
 use lines::reader::read_line;
-use print::{
-    STDIN_FILENO, count, front, part, put, put_bytes, put_number, put_two, put_whole, put_written,
-};
-use refusals::refusal::Refusal;
+use print::input::STDIN_FILENO;
+use print::words::{byte, count, number, stations, word};
+use print::{Bytes, Number, Written, front, show};
 use slots::count::{Count, outputs_on};
 use slots::input::input;
 use slots::setup::setup;
+use std::fmt;
 use tables::arms::Arms;
-use text::field::At;
-use text::whole::read_whole;
-
-// Word k of a line as a number; 0 where it is none.
-fn number(line: &[u8], k: usize) -> u16 {
-    read_whole(At::front(part(line, b' ', k))).map_or(0, |field| field.value)
-}
-
-// Word k of a line as a byte; 0 where it is none.
-fn byte(line: &[u8], k: usize) -> u8 {
-    u8::try_from(number(line, k)).unwrap_or(0)
-}
 
 // Word k of a line as the bytes of a port's buffer, and the next word as how many of them wait.
 fn read_buffer<'a>(line: &[u8], k: u8, bytes: &'a mut [u8; 256]) -> Buffer<'a> {
-    let word = k as usize;
-    let length = read_line(part(line, b' ', word), bytes).unwrap_or(0);
+    let at = k as usize;
+    let length = read_line(word(line, at), bytes).unwrap_or(0);
     Buffer {
         bytes: front(bytes, length),
-        waiting: number(line, word + 1) as usize,
+        waiting: number(line, at + 1) as usize,
     }
 }
 
-// The first n bytes of an area; all of it where it has fewer.
-fn area_of(area: &mut [u8], n: usize) -> &mut [u8] {
-    if area.len() < n {
-        return area;
+// The name of a port that was picked, or "-" for none.
+#[derive(Clone, Copy)]
+struct Picked(Option<Port>);
+
+impl fmt::Display for Picked {
+    fn fmt<W: fmt::Write>(&self, f: &mut fmt::Formatter<W>) -> fmt::Result {
+        match self.0 {
+            Some(Port::A) => write!(f, "A"),
+            Some(Port::B) => write!(f, "B"),
+            None => write!(f, "-"),
+        }
     }
-    &mut area[..n]
 }
 
-// The name of a port, by its number.
-fn put_port(port: u8) {
-    match port {
-        0 => put(b"-"),
-        1 => put(b"A"),
-        _ => put(b"B"),
+// The port of a number, 0 for none.
+fn port_of(number: u8) -> Option<Port> {
+    match number {
+        0 => None,
+        1 => Some(Port::A),
+        _ => Some(Port::B),
     }
 }
 
 // Serves the next slice. The reply area is filled with AAh before.
 fn serve_ports(
+    rt: &impl Print,
     arms: &mut Arms<'_>,
     programs: &mut [u8],
     stations: &[u8; 4],
@@ -74,149 +69,109 @@ fn serve_ports(
     let first = read_buffer(line, 1, &mut a);
     let second = read_buffer(line, 3, &mut b);
     let mut area = [0xaa; 99];
-    let reply = area_of(&mut area, number(line, 5) as usize);
-    match serve_next(arms, programs, stations, turn, first, second, reply) {
-        Ok(served) => {
-            let sent = served.sent;
-            put_port(served.port.number());
-            put_written(sent.number, sent.length, b", no reply", reply);
-            put(b" @");
-            put_whole(sent.position as u64);
-        }
-        Err(refusal) => {
-            put_port(0);
-            put_written(refusal.number(), 0, b", no reply", reply);
-            put(b" @0");
-        }
-    }
+    let room = (number(line, 5) as usize).min(99);
+    let reply = &mut area[..room];
+    let next = serve_next(arms, programs, stations, turn, first, second, reply);
+    let sent = next.sent;
+    let written = Written {
+        number: sent.number,
+        length: sent.length,
+        none: ", no reply",
+        area: reply,
+    };
+    let port = Picked(port_of(next.port));
+    show(rt, format_args!("{port}{written} @{}", sent.position));
 }
 
 // Picks the next slice, and prints it.
-fn choose_port(turn: &mut u8, line: &[u8]) {
+fn choose_port(rt: &impl Print, turn: &mut u8, line: &[u8]) {
     let mut a = [0u8; 256];
     let mut b = [0u8; 256];
     let first = read_buffer(line, 1, &mut a);
     let second = read_buffer(line, 3, &mut b);
     match choose(turn, first, second) {
         Ok(choice) => {
-            put_port(choice.port.number());
-            put(b": 00 ");
-            put_bytes(choice.part);
+            let port = Picked(Some(choice.port));
+            show(rt, format_args!("{port}: 00 {}", Bytes(choice.part)));
         }
         Err(refusal) => {
-            put_port(0);
-            put(b": ");
-            put_two(refusal.number());
+            let port = Picked(None);
+            show(rt, format_args!("{port}: {:02}", refusal.number()));
         }
     }
 }
 
-fn set_turn(turn: &mut u8, line: &[u8]) {
-    *turn = byte(line, 1);
-    put(b"set");
+fn put_count(rt: &impl Print, told: Count) {
+    show(rt, format_args!("count: {:02} {}", told.number, told.count));
 }
 
-fn put_count(told: Count) {
-    put(b"count: ");
-    put_two(told.number);
-    put(b" ");
-    put_whole(told.count as u64);
-}
-
-// The stations that a line names.
-fn stations_of(line: &[u8]) -> [u16; 4] {
-    [
-        number(line, 1),
-        number(line, 2),
-        number(line, 3),
-        number(line, 4),
-    ]
-}
-
-fn put_setup(answer: Result<(), Refusal>) {
-    put(b"setup: ");
-    put_number(answer);
-}
-
-fn put_input(answer: Result<(), Refusal>) {
-    put(b"input: ");
-    put_number(answer);
-}
-
-// Does what a line asks for. The first words differ in their third letter.
+// Does what a line asks for. The first words differ in their third letter, and only that is looked at.
 fn answer_line(
+    rt: &impl Print,
     arms: &mut Arms<'_>,
     programs: &mut [u8],
-    stations: &mut [u8; 4],
+    fitted: &mut [u8; 4],
     turn: &mut u8,
     line: &[u8],
 ) {
     match line.get(2) {
-        Some(b'x') => serve_ports(arms, programs, stations, turn, line),
-        Some(b'o') => choose_port(turn, line),
-        Some(b'r') => set_turn(turn, line),
-        Some(b't') => put_setup(setup(arms, programs, stations, turn, stations_of(line))),
-        Some(b'p') => put_input(input(
-            arms,
-            stations,
-            number(line, 1) as usize,
-            Port(number(line, 2)),
-            byte(line, 3),
-        )),
-        _ => put_count(outputs_on(arms.on, stations, number(line, 1) as usize).into()),
+        Some(b'x') => serve_ports(rt, arms, programs, fitted, turn, line),
+        Some(b'o') => choose_port(rt, turn, line),
+        Some(b'r') => {
+            *turn = byte(line, 1);
+            show(rt, "set");
+        }
+        Some(b't') => {
+            let answer = setup(arms, programs, fitted, turn, stations(line, 1));
+            show(rt, format_args!("setup: {}", Number(answer)));
+        }
+        Some(b'p') => {
+            let slot = number(line, 1) as usize;
+            let port = request::Port(number(line, 2));
+            let answer = input(arms, fitted, slot, port, byte(line, 3));
+            show(rt, format_args!("input: {}", Number(answer)));
+        }
+        _ => put_count(
+            rt,
+            outputs_on(arms.on, fitted, number(line, 1) as usize).into(),
+        ),
     }
 }
 
-// The turn, and the end of the line.
-fn put_turn(turn: u8) {
-    put(b" turn ");
-    put_whole(turn as u64);
-    put(b"\n");
-}
-
-// Answers every line of the input, each of which LF ends.
+// Answers every line of the input, each of which LF ends, and prints the turn behind each answer.
 fn answer_lines(
+    rt: &impl Print,
     arms: &mut Arms<'_>,
     programs: &mut [u8],
-    stations: &mut [u8; 4],
+    fitted: &mut [u8; 4],
     turn: &mut u8,
     lines: &[u8],
 ) {
-    for k in 0..count(lines, b'\n') {
-        answer_line(arms, programs, stations, turn, part(lines, b'\n', k));
-        put_turn(*turn);
+    for line in lines.split(|b| *b == b'\n').take(count(lines, b'\n')) {
+        answer_line(rt, arms, programs, fitted, turn, line);
+        show(rt, format_args!(" turn {turn}\n"));
     }
 }
 
 // Answers the lines on a box of which no slot is fitted yet. The input has at most 131,072 bytes.
-fn main() {
+fn main(rt: HostRuntime) {
     let mut buffer = [0u8; 131072];
     let got = io::read_full(STDIN_FILENO, &mut buffer);
     let lines = front(&buffer, got);
-    let mut timers = [[0u16; 16]; 4];
-    let mut registers = [[0u16; 64]; 4];
-    let mut x = [[0i32; 100]; 4];
-    let mut y = [[0i32; 100]; 4];
-    let mut z = [[0i32; 100]; 4];
-    let mut w = [[0i32; 100]; 4];
-    let mut inputs = [[0u8; 32]; 4];
-    let mut outputs = [[0u8; 32]; 4];
-    let mut memory = [[0u8; 16]; 4];
-    let mut on = [0u16; 4];
-    let mut programs = [0u8; 40960];
-    let mut stations = [0u8; 4];
-    let mut turn = 0;
     let mut arms = Arms {
-        timers: &mut timers,
-        registers: &mut registers,
-        x: &mut x,
-        y: &mut y,
-        z: &mut z,
-        w: &mut w,
-        inputs: &mut inputs,
-        outputs: &mut outputs,
-        memory: &mut memory,
-        on: &mut on,
+        timers: &mut [[0; 16]; 4],
+        registers: &mut [[0; 64]; 4],
+        x: &mut [[0; 100]; 4],
+        y: &mut [[0; 100]; 4],
+        z: &mut [[0; 100]; 4],
+        w: &mut [[0; 100]; 4],
+        inputs: &mut [[0; 32]; 4],
+        outputs: &mut [[0; 32]; 4],
+        memory: &mut [[0; 16]; 4],
+        on: &mut [0; 4],
     };
-    answer_lines(&mut arms, &mut programs, &mut stations, &mut turn, lines);
+    let mut programs = [0u8; 40960];
+    let mut fitted = [0u8; 4];
+    let mut turn = 0;
+    answer_lines(&rt, &mut arms, &mut programs, &mut fitted, &mut turn, lines);
 }

@@ -5,16 +5,23 @@
 use gateway::serve::serve;
 use lines::reader::read_line;
 use lines::writer::put_answer;
-use print::{STDIN_FILENO, front, put, put_position};
+use print::input::each_line;
+use print::{Text, front, show};
 use slots::setup::setup;
 use tables::arms::Arms;
 
 // Serves a line, and prints its answer as `cell` does, with the position before its LF. A line that is no call has
 // none.
-fn answer_line(arms: &mut Arms<'_>, programs: &mut [u8], stations: &[u8; 4], line: &[u8]) {
+fn answer_line(
+    rt: &impl Print,
+    arms: &mut Arms<'_>,
+    programs: &mut [u8],
+    stations: &[u8; 4],
+    line: &[u8],
+) {
     let mut slice = [0u8; 256];
     let Some(n) = read_line(line, &mut slice) else {
-        put(b"--\n");
+        show(rt, "--\n");
         return;
     };
     let mut reply = [0u8; 64];
@@ -22,89 +29,31 @@ fn answer_line(arms: &mut Arms<'_>, programs: &mut [u8], stations: &[u8; 4], lin
     let length = sent.length;
     let mut out = [0u8; 132];
     let end = put_answer(&mut out, 0, sent.number, &reply[..length]);
-    put(front(&out, end - 1));
-    put_position(sent.position);
+    let answer = Text(front(&out, end - 1));
+    show(rt, format_args!("{answer} @{}\n", sent.position));
 }
 
-// Takes bytes of input: LF ends the line that is held, and any other byte is part of it. No more than 513 are held:
-// a line over 512 digits is no call, whatever follows. Returns how many bytes are then held.
-fn answer_bytes(
-    arms: &mut Arms<'_>,
-    programs: &mut [u8],
-    stations: &[u8; 4],
-    input: &[u8],
-    held: &mut [u8; 513],
-    start: usize,
-) -> usize {
-    let mut n = start;
-    for b in input {
-        if *b == b'\n' {
-            answer_line(arms, programs, stations, front(held, n));
-            n = 0;
-        } else if n < 513 {
-            held[n] = *b;
-            n += 1;
-        }
-    }
-    n
-}
-
-// Sets up stations 1 to 4, and answers every line; a last one without LF counts if it is not empty. A proved loop
-// has to end, and nothing says that the input does, so the blocks are counted up to a number that no run reaches.
-fn main() {
-    let mut timers = [[0u16; 16]; 4];
-    let mut registers = [[0u16; 64]; 4];
-    let mut x = [[0i32; 100]; 4];
-    let mut y = [[0i32; 100]; 4];
-    let mut z = [[0i32; 100]; 4];
-    let mut w = [[0i32; 100]; 4];
-    let mut inputs = [[0u8; 32]; 4];
-    let mut outputs = [[0u8; 32]; 4];
-    let mut memory = [[0u8; 16]; 4];
-    let mut on = [0u16; 4];
+// Sets up stations 1 to 4, and answers every line of standard input. A line over 512 digits is no call, whatever follows.
+fn main(rt: HostRuntime) {
+    let mut arms = Arms {
+        timers: &mut [[0; 16]; 4],
+        registers: &mut [[0; 64]; 4],
+        x: &mut [[0; 100]; 4],
+        y: &mut [[0; 100]; 4],
+        z: &mut [[0; 100]; 4],
+        w: &mut [[0; 100]; 4],
+        inputs: &mut [[0; 32]; 4],
+        outputs: &mut [[0; 32]; 4],
+        memory: &mut [[0; 16]; 4],
+        on: &mut [0; 4],
+    };
     let mut programs = [0u8; 40960];
     let mut stations = [0u8; 4];
     let mut turn = 0;
-    let mut arms = Arms {
-        timers: &mut timers,
-        registers: &mut registers,
-        x: &mut x,
-        y: &mut y,
-        z: &mut z,
-        w: &mut w,
-        inputs: &mut inputs,
-        outputs: &mut outputs,
-        memory: &mut memory,
-        on: &mut on,
-    };
-    let set_up = setup(
-        &mut arms,
-        &mut programs,
-        &mut stations,
-        &mut turn,
-        [1, 2, 3, 4],
-    );
+    let want = [1, 2, 3, 4];
+    let set_up = setup(&mut arms, &mut programs, &mut stations, &mut turn, want);
     if set_up.is_err() {
         return;
     }
-    let mut input = io::large_buffer();
-    let mut held = [0u8; 513];
-    let mut n = 0;
-    for _ in 0..u64::MAX {
-        let got = io::read_full(STDIN_FILENO, &mut input);
-        if got == 0 {
-            break;
-        }
-        n = answer_bytes(
-            &mut arms,
-            &mut programs,
-            &stations,
-            front(&input, got),
-            &mut held,
-            n,
-        );
-    }
-    if 0 < n {
-        answer_bytes(&mut arms, &mut programs, &stations, b"\n", &mut held, n);
-    }
+    each_line::<513, _>(|line| answer_line(&rt, &mut arms, &mut programs, &stations, line));
 }

@@ -1,158 +1,155 @@
-// What the example programs write on standard output: labels, texts, numbers and bytes.
+// What the example programs print: bytes, texts and answers, each as its `Display` writes it.
 #![tactic(auto)]
 
-use lines::writer::capital_of;
+ghost use Rattle.std.specs.Prelude.{◌<◌};
+
 use refusals::refusal::{Refusal, Refused};
-use text::put::Cursor;
-use text::whole::put_two_digits;
+use std::fmt;
+use std::fmt::Display;
 
+pub mod input; // input.rt: the lines of standard input
 pub mod texts; // texts.rt: typed texts as characters
+pub mod words; // words.rt: the words of a line
 
-// The descriptors of standard input and standard output.
-pub const STDIN_FILENO: i32 = 0;
-
-const STDOUT_FILENO: i32 = 1;
-
-pub fn put(s: &[u8]) {
-    io::write_all(STDOUT_FILENO, s);
+// Prints a value on standard output. Where that fails, nothing is left to tell, and the program goes on.
+pub fn show<D: Display + Drop>(rt: &impl Print, value: D) {
+    if rt.print(value).is_err() {}
 }
 
-// In brackets, so that an empty text and a space at an end are seen.
-pub fn put_text(s: &[u8]) {
-    put(b"[");
-    put(s);
-    put(b"]");
+// A digit by hand, and not by `{:X}`: the edits of must-fail/, which stay, give it more than there are.
+fn hexadecimal(d: u8) -> char
+    requires { d < 16 }
+{
+    char::from(if d < 10 { b'0' + d } else { b'A' + (d - 10) })
 }
 
-pub fn put_whole(n: u64) {
-    io::print_decimal(STDOUT_FILENO, n);
-}
+// A byte by its two hexadecimal digits.
+#[derive(Clone, Copy)]
+struct Byte(u8);
 
-pub fn put_two(n: u8) {
-    let mut digits = [0u8; 2];
-    put_two_digits(&mut digits, Cursor { at: 0, sum: 0 }, n as u16);
-    put(&digits);
-}
-
-pub fn put_signed(v: i32) {
-    if v < 0 {
-        put(b"-");
-    }
-    put_whole(v.unsigned_abs() as u64);
-}
-
-fn put_hexadecimal(b: u8) {
-    let digits = [capital_of(b / 16), capital_of(b % 16)];
-    put(&digits);
-}
-
-// A number by its sixteen hexadecimal digits.
-pub fn put_bits(n: u64) {
-    for b in n.to_be_bytes() {
-        put_hexadecimal(b);
-    }
-}
-
-// A byte of a text: as it is, or in hexadecimal between < and > where it is no character.
-fn put_character(b: u8) {
-    if 0x20 <= b && b <= 0x7e {
-        put(&[b]);
-        return;
-    }
-    put(b"<");
-    put_hexadecimal(b);
-    put(b">");
-}
-
-// The bytes of a slice as text; of none, that there are none.
-pub fn put_slice(s: &[u8]) {
-    if s.is_empty() {
-        put(b"no bytes");
-    }
-    for b in s {
-        put_character(*b);
+impl Display for Byte {
+    fn fmt<W: fmt::Write>(&self, f: &mut fmt::Formatter<W>) -> fmt::Result {
+        let b = self.0;
+        f.write_char(hexadecimal(b / 16))?;
+        f.write_char(hexadecimal(b % 16))
     }
 }
 
 // Each byte in hexadecimal, with a space between two.
-pub fn put_bytes(s: &[u8]) {
-    for (i, b) in s.iter().enumerate() {
-        if 0 < i {
-            put(b" ");
+#[derive(Clone, Copy)]
+pub struct Bytes<'a>(pub &'a [u8]);
+
+impl Display for Bytes<'_> {
+    fn fmt<W: fmt::Write>(&self, f: &mut fmt::Formatter<W>) -> fmt::Result {
+        for (i, b) in self.0.iter().enumerate() {
+            if 0 < i {
+                write!(f, " ")?;
+            }
+            Byte(*b).fmt(f)?;
         }
-        put_hexadecimal(*b);
+        Ok(())
+    }
+}
+
+// A text: each byte that is a character as it is, and any other in hexadecimal between < and >.
+#[derive(Clone, Copy)]
+pub struct Text<'a>(pub &'a [u8]);
+
+impl Display for Text<'_> {
+    fn fmt<W: fmt::Write>(&self, f: &mut fmt::Formatter<W>) -> fmt::Result {
+        for b in self.0 {
+            if 0x20 <= *b && *b <= 0x7e {
+                f.write_char(char::from(*b))?;
+            } else {
+                let byte = Byte(*b);
+                write!(f, "<{byte}>")?;
+            }
+        }
+        Ok(())
+    }
+}
+
+// A slice: its bytes as text; of none, that there are none.
+#[derive(Clone, Copy)]
+pub struct Slice<'a>(pub &'a [u8]);
+
+impl Display for Slice<'_> {
+    fn fmt<W: fmt::Write>(&self, f: &mut fmt::Formatter<W>) -> fmt::Result {
+        if self.0.is_empty() {
+            return write!(f, "no bytes");
+        }
+        Text(self.0).fmt(f)
     }
 }
 
 // The first n bytes of s; all of s where it has fewer.
 pub fn front(s: &[u8], n: usize) -> &[u8] {
-    if s.len() < n {
-        return s;
-    }
-    &s[..n]
-}
-
-// How many bytes at the end of an area are AAh.
-fn untouched(area: &[u8]) -> usize {
-    area.iter().rev().take_while(|b| **b == 0xaa).count()
+    s.get(..n).unwrap_or(s)
 }
 
 // How many bytes at the end of an area are still AAh, with which it was filled.
-pub fn put_untouched(area: &[u8]) {
-    put(b", ");
-    put_whole(untouched(area) as u64);
-    put(b" untouched");
+#[derive(Clone, Copy)]
+pub struct Untouched<'a>(pub &'a [u8]);
+
+impl Display for Untouched<'_> {
+    fn fmt<W: fmt::Write>(&self, f: &mut fmt::Formatter<W>) -> fmt::Result {
+        let n = self.0.iter().rev().take_while(|b| **b == 0xaa).count();
+        write!(f, ", {n} untouched")
+    }
 }
 
 // What a call answered: its number, the bytes that it wrote or what is said of none, and what it left of the area.
-pub fn put_written(number: u8, length: usize, none: &[u8], area: &[u8]) {
-    put(b": ");
-    put_two(number);
-    if length == 0 {
-        put(none);
-    } else {
-        put(b" ");
-        put_bytes(front(area, length));
+#[derive(Clone, Copy)]
+pub struct Written<'a> {
+    pub number: u8,
+    pub length: usize,
+    pub none: &'a str,
+    pub area: &'a [u8],
+}
+
+impl Display for Written<'_> {
+    fn fmt<W: fmt::Write>(&self, f: &mut fmt::Formatter<W>) -> fmt::Result {
+        let (number, none, left) = (self.number, self.none, Untouched(self.area));
+        if self.length == 0 {
+            return write!(f, ": {number:02}{none}{left}");
+        }
+        let bytes = Bytes(front(self.area, self.length));
+        write!(f, ": {number:02} {bytes}{left}")
     }
-    put_untouched(area);
 }
 
 // What a writer answered: the length of the frame that it wrote, or the refusal.
-pub fn put_answer(written: Result<usize, Refusal>, area: &[u8]) {
-    match written {
-        Ok(length) => put_written(0, length, b", nothing", area),
-        Err(refusal) => put_written(refusal.number(), 0, b", nothing", area),
+pub fn answer(written: Result<usize, Refusal>, area: &[u8]) -> Written<'_> {
+    let (number, length) = match written {
+        Ok(length) => (0, length),
+        Err(refusal) => (refusal.number(), 0),
+    };
+    Written {
+        number,
+        length,
+        none: ", nothing",
+        area,
     }
-}
-
-// The position in a slice, and the end of the line.
-pub fn put_position(position: usize) {
-    put(b" @");
-    put_whole(position as u64);
-    put(b"\n");
 }
 
 // The number of what a call came to, with two digits.
-pub fn put_number(answer: Result<(), Refusal>) {
-    match answer {
-        Ok(()) => put_two(0),
-        Err(refusal) => put_two(refusal.number()),
+#[derive(Clone, Copy)]
+pub struct Number(pub Result<(), Refusal>);
+
+impl Display for Number {
+    fn fmt<W: fmt::Write>(&self, f: &mut fmt::Formatter<W>) -> fmt::Result {
+        let number = self.0.err().map_or(0, |refusal| refusal.number());
+        write!(f, "{number:02}")
     }
 }
 
-// The rest of a line about a slice that was refused: the number, with two digits, and the position.
-pub fn put_refused(refused: Refused) {
-    put(b": ");
-    put_two(refused.refusal.number());
-    put_position(refused.position);
-}
+// A slice that was refused: the number, with two digits, and the position.
+#[derive(Clone, Copy)]
+pub struct Place(pub Refused);
 
-// How many times a byte stands in s.
-pub fn count(s: &[u8], byte: u8) -> usize {
-    s.iter().filter(|b| **b == byte).count()
-}
-
-// Part k of s, the parts having one `mark` between them; an empty part where there is none.
-pub fn part(s: &[u8], mark: u8, k: usize) -> &[u8] {
-    s.split(|b| *b == mark).nth(k).unwrap_or(&[])
+impl Display for Place {
+    fn fmt<W: fmt::Write>(&self, f: &mut fmt::Formatter<W>) -> fmt::Result {
+        let refused = self.0;
+        write!(f, "{:02} @{}", refused.refusal.number(), refused.position)
+    }
 }

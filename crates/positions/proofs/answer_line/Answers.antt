@@ -18,9 +18,9 @@ line_some : (n : ℕ) (reply : List ℕ) {xs ys : List ℕ} {r : ℕ} → PutAt 
 line_some n reply p = omega (arith, p.next, answer_length n reply)
 
 pub put_answer-end-requires : goal.put_answer-end-requires
-put_answer-end-requires c =
+put_answer-end-requires g c =
     line_fits _ _ _ (search rules) (served_fits c.serve-sent.ensures.served)
 
 pub overflow_sub-end : goal.overflow_sub-end
-overflow_sub-end c =
+overflow_sub-end g c =
     line_some _ _ c.put_answer-end.ensures
