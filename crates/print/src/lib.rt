@@ -3,7 +3,7 @@
 
 ghost use Rattle.std.specs.Prelude.{◌<◌};
 
-use refusals::refusal::{Refusal, Refused};
+use refusals::refusal::{Refusal, Refused, number_in};
 use text::put::Cursor;
 use text::whole::put_two_digits;
 
@@ -141,10 +141,7 @@ pub fn put_position(position: usize) {
 
 // The number of what a call came to, with two digits.
 pub fn put_number(answer: Result<(), Refusal>) {
-    match answer {
-        Ok(()) => put_two(0),
-        Err(refusal) => put_two(refusal.number()),
-    }
+    put_two(number_in(answer));
 }
 
 // The rest of a line about a slice that was refused: the number, with two digits, and the position.

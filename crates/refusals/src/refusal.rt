@@ -1,6 +1,6 @@
 // The refusals of document 01 ("Refusal numbers, in the order checked") and of document 02.
 ghost use Rattle.std.specs.Prelude.{◌≡◌};
-ghost use Rattle.refusals.specs.Refusal.{number_of, refused_at};
+ghost use Rattle.refusals.specs.Refusal.{number_of, refusal_number, refused_at};
 
 // Why a call is refused, each by its number.
 #[derive(Clone, Copy, Debug, PartialEq, Eq)]
@@ -30,6 +30,16 @@ impl Refusal {
         ensures { result ≡ number_of self }
     {
         self as u8
+    }
+}
+
+// The number of what a call came to: 0 where it was not refused.
+pub fn number_in(answer: Result<(), Refusal>) -> u8
+    ensures { result ≡ refusal_number answer }
+{
+    match answer {
+        Ok(()) => 0,
+        Err(refusal) => refusal.number(),
     }
 }
 
