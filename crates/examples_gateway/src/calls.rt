@@ -8,7 +8,7 @@ use crate::snapshot::{put_tables, put_zero, snapshot};
 use commands::request::Port;
 use gateway::serve::serve;
 use print::{put, put_number, put_two, put_whole, put_written};
-use slots::count::{Count, outputs_on};
+use slots::count::outputs_on;
 use slots::input::input;
 use slots::setup::setup;
 use tables::arms::Arms;
@@ -103,10 +103,16 @@ fn place(line: &[u8]) -> usize {
 }
 
 fn put_outputs(on: &[u16; 4], s: &[u8; 4], slot: u16) {
-    let told = Count::from(outputs_on(on, s, slot as usize));
-    put_two(told.number);
-    put(b", ");
-    put_whole(told.count as u64);
+    match outputs_on(on, s, slot as usize) {
+        Ok(count) => {
+            put(b"00, ");
+            put_whole(count as u64);
+        }
+        Err(refusal) => {
+            put_two(refusal.number());
+            put(b", 0");
+        }
+    }
     put(b" on");
 }
 

@@ -17,7 +17,7 @@ use print::{
     STDIN_FILENO, count, front, part, put, put_bytes, put_number, put_two, put_whole, put_written,
 };
 use refusals::refusal::Refusal;
-use slots::count::{Count, outputs_on};
+use slots::count::outputs_on;
 use slots::input::input;
 use slots::setup::setup;
 use tables::arms::Arms;
@@ -116,11 +116,18 @@ fn set_turn(turn: &mut u8, line: &[u8]) {
     put(b"set");
 }
 
-fn put_count(told: Count) {
+fn put_count(told: Result<u16, Refusal>) {
     put(b"count: ");
-    put_two(told.number);
-    put(b" ");
-    put_whole(told.count as u64);
+    match told {
+        Ok(count) => {
+            put(b"00 ");
+            put_whole(count as u64);
+        }
+        Err(refusal) => {
+            put_two(refusal.number());
+            put(b" 0");
+        }
+    }
 }
 
 // The stations that a line names.
@@ -163,7 +170,7 @@ fn answer_line(
             Port(number(line, 2)),
             byte(line, 3),
         )),
-        _ => put_count(outputs_on(arms.on, stations, number(line, 1) as usize).into()),
+        _ => put_count(outputs_on(arms.on, stations, number(line, 1) as usize)),
     }
 }
 
