@@ -8,8 +8,8 @@ use refusals::refusal::Refusal;
 // A port of the box.
 #[derive(Clone, Copy)]
 pub enum Port {
-    A,
-    B,
+    A = 1,
+    B = 2,
 }
 
 impl Port {
@@ -17,10 +17,7 @@ impl Port {
     pub fn number(self) -> u8
         ensures { result ≡ number_of self }
     {
-        match self {
-            Port::A => 1,
-            Port::B => 2,
-        }
+        self as u8
     }
 }
 

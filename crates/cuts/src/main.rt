@@ -7,7 +7,7 @@ ghost use Rattle.std.specs.Prelude.{◌<◌, ◌≤◌, length};
 
 use print::input::STDIN_FILENO;
 use print::{Bytes, front, show};
-use receiver::receive::Receiver;
+use receiver::receive::{Receiver, Reception};
 use std::fmt;
 
 // What a call came to: where the bytes that are left begin, and the slice that was finished.
@@ -27,15 +27,13 @@ fn take_turn<'a>(
     requires { i < length arrived.now }
     ensures { (i < result.next) × (result.next ≤ length arrived.now) }
 {
-    let r = receiver.receive(&arrived[i..], area);
-    let slice = if r.length == 0 {
-        None
-    } else {
-        Some(front(area, r.length))
+    // Room for any slice, so that no call is refused.
+    let Ok(got) = receiver.receive(&arrived[i..], area) else {
+        unreachable!()
     };
     Turn {
-        next: i + r.taken,
-        slice,
+        next: i + got.taken,
+        slice: got.slice.map(|length| front(area, length)),
     }
 }
 
@@ -147,11 +145,14 @@ fn put_call(rt: &impl Print, receiver: &mut Receiver<'_>, arrived: &[u8], room: 
     requires { room ≤ 300 }
 {
     let mut area = [0u8; 300];
-    let r = receiver.receive(arrived, &mut area[..room]);
+    let told = Reception::from(receiver.receive(arrived, &mut area[..room]));
     let count = *receiver.count;
     show(
         rt,
-        format_args!("call {} {} {} {count}\n", r.number, r.taken, r.length),
+        format_args!(
+            "call {} {} {} {count}\n",
+            told.number, told.taken, told.length
+        ),
     );
 }
 

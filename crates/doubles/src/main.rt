@@ -3,8 +3,7 @@
 // this program.
 #![tactic(auto)]
 
-use commands::request::Request;
-use harl::message::read_request;
+use harl::message::{Asked, read_request};
 use lines::reader::read_line;
 use print::input::each_line;
 use print::texts::Texts;
@@ -64,8 +63,8 @@ impl fmt::Display for Carried {
     }
 }
 
-fn answer_reply(rt: &impl Print, slice: &[u8], station: u8, request: Request) {
-    match read_converted(slice, station, request) {
+fn answer_reply(rt: &impl Print, slice: &[u8], asked: Asked) {
+    match read_converted(slice, asked) {
         Ok(what) => show(rt, format_args!("00 {}\n", Carried(what))),
         Err(refused) => show(rt, format_args!("{}\n", Place(refused))),
     }
@@ -74,7 +73,7 @@ fn answer_reply(rt: &impl Print, slice: &[u8], station: u8, request: Request) {
 // Answers a request and its reply.
 fn answer_pair(rt: &impl Print, request: &[u8], reply: &[u8]) {
     match read_request(request) {
-        Ok(asked) => answer_reply(rt, reply, asked.station, asked.request),
+        Ok(asked) => answer_reply(rt, reply, asked),
         Err(refused) => show(rt, format_args!("asked {}\n", Place(refused))),
     }
 }

@@ -8,7 +8,7 @@ use crate::snapshot::Tables;
 use gateway::serve::serve;
 use print::words::word;
 use print::{Number, Slice, Text, Written, show};
-use slots::count::{Count, outputs_on};
+use slots::count::outputs_on;
 use slots::input::input;
 use slots::setup::setup;
 use std::fmt;
@@ -98,8 +98,10 @@ fn answer_lent(rt: &impl Print, arms: &mut Arms<'_>, s: &[u8; 4], size: u16, sli
 }
 
 fn put_outputs(rt: &impl Print, on: &[u16; 4], s: &[u8; 4], slot: usize) {
-    let told = Count::from(outputs_on(on, s, slot));
-    show(rt, format_args!("{:02}, {} on", told.number, told.count));
+    match outputs_on(on, s, slot) {
+        Ok(count) => show(rt, format_args!("00, {count} on")),
+        Err(refusal) => show(rt, format_args!("{:02}, 0 on", refusal.number())),
+    }
 }
 
 // Makes the call of a step, and says which it is and what it answered.

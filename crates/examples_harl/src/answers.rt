@@ -20,7 +20,7 @@ pub fn read(rt: &impl Print, letter: u8, slice: &[u8]) {
         rt,
         format_args!("reply {} to {}: ", Slice(slice), Wanted(asked)),
     );
-    match read_reply(slice, asked.station, asked.request) {
+    match read_reply(slice, asked) {
         Ok(outcome) => show(rt, format_args!("00 {}\n", Carried(outcome))),
         Err(refused) => show(rt, format_args!("{}\n", Place(refused))),
     }
@@ -111,7 +111,7 @@ pub fn write<const N: usize>(rt: &impl Print, letter: u8)
     let Reply(outcome, request) = reply_of(letter);
     let asked = asked_of(request);
     let mut area = [0xaa; N];
-    let written = write_reply(&mut area, asked.station, asked.request, outcome);
+    let written = write_reply(&mut area, asked, outcome);
     show(
         rt,
         format_args!("reply written {} to {}", Carried(outcome), Wanted(asked)),

@@ -11,7 +11,7 @@ fn write_asked<const N: usize>(rt: &impl Print, asked: Asked)
     requires { N ≤ 64 }
 {
     let mut area = [0xaa; N];
-    let written = write_request(&mut area, asked.station, asked.request);
+    let written = write_request(&mut area, asked);
     show(
         rt,
         format_args!(

@@ -4,8 +4,8 @@ ghost use Rattle.tables.specs.Tables.{tables};
 ghost use Rattle.model.specs.Box.{box};
 ghost use Rattle.slots.specs.Entries.{InputSet};
 
-use crate::number::number_in;
 use commands::request::Port;
+use refusals::refusal::number_in;
 use tables::arms::Arms;
 
 // Puts a byte into an input port.

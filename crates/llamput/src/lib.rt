@@ -9,7 +9,6 @@
 // only read.
 #![tactic(auto)]
 
-pub mod number; // number.rt: what a call comes to, as C is told it
 pub mod setup; // setup.rt: a new box
 pub mod serve; // serve.rt: a frame served
 pub mod input; // input.rt: an input port set

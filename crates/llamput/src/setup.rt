@@ -2,7 +2,7 @@
 ghost use Rattle.tables.specs.Tables.{tables};
 ghost use Rattle.slots.specs.Entries.{SetUp};
 
-use crate::number::number_in;
+use refusals::refusal::number_in;
 use tables::arms::Arms;
 
 // Sets up a new box in lent memory.

@@ -16,7 +16,8 @@ use lines::reader::read_line;
 use print::input::STDIN_FILENO;
 use print::words::{byte, count, number, stations, word};
 use print::{Bytes, Number, Written, front, show};
-use slots::count::{Count, outputs_on};
+use refusals::refusal::{Refusal, Refused};
+use slots::count::outputs_on;
 use slots::input::input;
 use slots::setup::setup;
 use std::fmt;
@@ -46,15 +47,6 @@ impl fmt::Display for Picked {
     }
 }
 
-// The port of a number, 0 for none.
-fn port_of(number: u8) -> Option<Port> {
-    match number {
-        0 => None,
-        1 => Some(Port::A),
-        _ => Some(Port::B),
-    }
-}
-
 // Serves the next slice. The reply area is filled with AAh before.
 fn serve_ports(
     rt: &impl Print,
@@ -71,16 +63,20 @@ fn serve_ports(
     let mut area = [0xaa; 99];
     let room = (number(line, 5) as usize).min(99);
     let reply = &mut area[..room];
-    let next = serve_next(arms, programs, stations, turn, first, second, reply);
-    let sent = next.sent;
+    let (port, sent) = match serve_next(arms, programs, stations, turn, first, second, reply) {
+        Ok(served) => (Some(served.port), served.sent),
+        Err(refusal) => (None, Refused::at(refusal, 0).into()),
+    };
     let written = Written {
         number: sent.number,
         length: sent.length,
         none: ", no reply",
         area: reply,
     };
-    let port = Picked(port_of(next.port));
-    show(rt, format_args!("{port}{written} @{}", sent.position));
+    show(
+        rt,
+        format_args!("{}{written} @{}", Picked(port), sent.position),
+    );
 }
 
 // Picks the next slice, and prints it.
@@ -101,8 +97,11 @@ fn choose_port(rt: &impl Print, turn: &mut u8, line: &[u8]) {
     }
 }
 
-fn put_count(rt: &impl Print, told: Count) {
-    show(rt, format_args!("count: {:02} {}", told.number, told.count));
+fn put_count(rt: &impl Print, told: Result<u16, Refusal>) {
+    match told {
+        Ok(count) => show(rt, format_args!("count: 00 {count}")),
+        Err(refusal) => show(rt, format_args!("count: {:02} 0", refusal.number())),
+    }
 }
 
 // Does what a line asks for. The first words differ in their third letter, and only that is looked at.
@@ -133,7 +132,7 @@ fn answer_line(
         }
         _ => put_count(
             rt,
-            outputs_on(arms.on, fitted, number(line, 1) as usize).into(),
+            outputs_on(arms.on, fitted, number(line, 1) as usize),
         ),
     }
 }

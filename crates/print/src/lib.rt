@@ -1,9 +1,8 @@
 // What the example programs print: bytes, texts and answers, each as its `Display` writes it.
 #![tactic(auto)]
 
-ghost use Rattle.std.specs.Prelude.{◌<◌};
-
-use refusals::refusal::{Refusal, Refused};
+use lines::writer::capital_of;
+use refusals::refusal::{Refusal, Refused, number_in};
 use std::fmt;
 use std::fmt::Display;
 
@@ -16,22 +15,15 @@ pub fn show<D: Display + Drop>(rt: &impl Print, value: D) {
     if rt.print(value).is_err() {}
 }
 
-// A digit by hand, and not by `{:X}`: the edits of must-fail/, which stay, give it more than there are.
-fn hexadecimal(d: u8) -> char
-    requires { d < 16 }
-{
-    char::from(if d < 10 { b'0' + d } else { b'A' + (d - 10) })
-}
-
-// A byte by its two hexadecimal digits.
+// A byte by its two hexadecimal digits; not by `{:02X}`, since edits of must-fail/ ask for a digit that there is none of.
 #[derive(Clone, Copy)]
 struct Byte(u8);
 
 impl Display for Byte {
     fn fmt<W: fmt::Write>(&self, f: &mut fmt::Formatter<W>) -> fmt::Result {
         let b = self.0;
-        f.write_char(hexadecimal(b / 16))?;
-        f.write_char(hexadecimal(b % 16))
+        f.write_char(char::from(capital_of(b / 16)))?;
+        f.write_char(char::from(capital_of(b % 16)))
     }
 }
 
@@ -138,8 +130,7 @@ pub struct Number(pub Result<(), Refusal>);
 
 impl Display for Number {
     fn fmt<W: fmt::Write>(&self, f: &mut fmt::Formatter<W>) -> fmt::Result {
-        let number = self.0.err().map_or(0, |refusal| refusal.number());
-        write!(f, "{number:02}")
+        write!(f, "{:02}", number_in(self.0))
     }
 }
 

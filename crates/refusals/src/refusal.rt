@@ -1,11 +1,11 @@
 // The refusals of document 01 ("Refusal numbers, in the order checked") and of document 02.
 ghost use Rattle.std.specs.Prelude.{◌≡◌};
-ghost use Rattle.refusals.specs.Refusal.{number_of, refused_at};
+ghost use Rattle.refusals.specs.Refusal.{number_of, refusal_number, refused_at};
 
-// Why a call is refused, in the order of the numbers.
+// Why a call is refused, each by its number.
 #[derive(Clone, Copy, Debug, PartialEq, Eq)]
 pub enum Refusal {
-    Room,
+    Room = 1,
     Length,
     Start,
     End,
@@ -29,25 +29,17 @@ impl Refusal {
     pub fn number(self) -> u8
         ensures { result ≡ number_of self }
     {
-        match self {
-            Refusal::Room => 1,
-            Refusal::Length => 2,
-            Refusal::Start => 3,
-            Refusal::End => 4,
-            Refusal::Lrc => 5,
-            Refusal::Stray => 6,
-            Refusal::Station => 7,
-            Refusal::Absent => 8,
-            Refusal::Command => 9,
-            Refusal::Shape => 10,
-            Refusal::Number => 11,
-            Refusal::Value => 12,
-            Refusal::Setup => 13,
-            Refusal::Input => 14,
-            Refusal::Reply => 15,
-            Refusal::Empty => 16,
-            Refusal::Idle => 17,
-        }
+        self as u8
+    }
+}
+
+// The number of what a call came to: 0 where it was not refused.
+pub fn number_in(answer: Result<(), Refusal>) -> u8
+    ensures { result ≡ refusal_number answer }
+{
+    match answer {
+        Ok(()) => 0,
+        Err(refusal) => refusal.number(),
     }
 }
 
