@@ -7,7 +7,7 @@ mod printed; // printed.rt: the charts as printed
 
 use crate::printed::{memory_bits, signals};
 use commands::request::Signal;
-use ports::signal::place_of;
+use ports::signal::{FIRST_MEMORY_BIT, FIRST_SIGNAL, place_of};
 use print::show;
 use std::fmt;
 
@@ -29,8 +29,8 @@ impl fmt::Display for Chart {
 // Whether the gateway finds a number of a chart at a bit of a port.
 fn stands_at(chart: Chart, number: u16, port: usize, bit: usize) -> bool {
     let (first, end) = match chart {
-        Chart::Signals => (0, 256),
-        Chart::MemoryBits => (256, 384),
+        Chart::Signals => (FIRST_SIGNAL, 256),
+        Chart::MemoryBits => (FIRST_MEMORY_BIT, 384),
     };
     if number < first || end <= number {
         return false;

@@ -21,10 +21,12 @@ impl Port {
     }
 }
 
-// The turn of a new box, in which no port was served last.
+// The turn of a new box, in which no port was served last. The turn is a byte, as C keeps it: any other that is no port's
+// number says the same.
 pub const FRESH: u8 = 0;
 
-// What a port lends: a buffer, and how many bytes of it wait.
+// What a port lends: a buffer, and how many bytes of it wait. The number is C's, and may be any, so that the waiting slice is a
+// question.
 #[derive(Clone, Copy)]
 pub struct Buffer<'a> {
     pub bytes: &'a [u8],

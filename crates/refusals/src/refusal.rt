@@ -43,7 +43,7 @@ pub fn number_in(answer: Result<(), Refusal>) -> u8
     }
 }
 
-// Why a slice is refused, and the position where it is wrong; 0 where there is none to tell.
+// Why a slice is refused, and the position where it is wrong; 0 where there is none to tell, as C has it.
 #[derive(Clone, Copy, Debug, PartialEq, Eq)]
 pub struct Refused {
     pub refusal: Refusal,
