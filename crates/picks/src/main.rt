@@ -104,7 +104,8 @@ fn put_count(rt: &impl Print, told: Result<u16, Refusal>) {
     }
 }
 
-// Does what a line asks for. The first words differ in their third letter, and only that is looked at.
+// Does what a line asks for. The first words differ in their third letter, and only that is looked at, so that any word asks for
+// something.
 fn answer_line(
     rt: &impl Print,
     arms: &mut Arms<'_>,
