@@ -58,7 +58,8 @@ pub enum Step {
     Held(usize),
 }
 
-// How many bytes are held: a count that no call leaves means none. That the memory has 255 bytes a lent struct doesn't tell.
+// How many bytes are held: a count that no call leaves means none. The last clause is the length of the array, which a
+// reference in a struct leaves open.
 #[tactic(auto, unfolding(crate::specs::Receive::standing))]
 fn standing_of(held: &[u8; 255], count: u8) -> usize
     ensures { (result ≡ standing count) × (result < 255) × (length held.now ≡ 255) }
