@@ -131,10 +131,7 @@ fn answer_line(
             let answer = input(arms, fitted, slot, port, byte(line, 3));
             show(rt, format_args!("input: {}", Number(answer)));
         }
-        _ => put_count(
-            rt,
-            outputs_on(arms.on, fitted, number(line, 1) as usize),
-        ),
+        _ => put_count(rt, outputs_on(arms.on, fitted, number(line, 1) as usize)),
     }
 }
 

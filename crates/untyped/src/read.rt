@@ -17,10 +17,15 @@ use steps::step::Step;
 
 // The kinds of what a reply carries, as C knows them.
 const NOTHING: u8 = 0;
+
 const SECONDS: u8 = 1;
+
 const MILLIMETRES: u8 = 2;
+
 const COUNT: u8 = 3;
+
 const STATUS: u8 = 4;
+
 const STEP: u8 = 5;
 
 // The number and the position of a refusal, 0 for none; the kind of what the reply carries; and the status, the doubles
