@@ -25,8 +25,8 @@ impl Port {
 // number says the same.
 pub const FRESH: u8 = 0;
 
-// What a port lends: a buffer, and how many bytes of it wait. The number is C's, and may be any, so that the waiting slice is a
-// question.
+// What a port lends: a buffer, and how many bytes of it wait. The number is C's, and may be any, so that
+// whether a slice waits has to be asked.
 #[derive(Clone, Copy)]
 pub struct Buffer<'a> {
     pub bytes: &'a [u8],

@@ -112,7 +112,7 @@ impl From<i32> for Row {
     }
 }
 
-// The row that a payload holds; zeros where it holds none.
+// The row that a payload holds; zeros where it holds none. Beside `step_in`: another case, and another value for none.
 pub fn row_in(payload: Payload) -> Row
     ensures { result ≡ row_in payload }
 {

@@ -10,29 +10,24 @@ use print::{Bytes, front, show};
 use receiver::receive::{Receiver, Reception};
 use std::fmt;
 
-// What a call came to: where the bytes that are left begin, and the slice that was finished.
+// What a call came to: how many bytes were taken, and the slice that was finished.
 #[derive(Clone, Copy)]
 struct Turn<'a> {
-    next: usize,
+    taken: usize,
     slice: Option<&'a [u8]>,
 }
 
-// One call on the bytes from i on.
-fn take_turn<'a>(
-    receiver: &mut Receiver<'_>,
-    arrived: &[u8],
-    i: usize,
-    area: &'a mut [u8; 255],
-) -> Turn<'a>
-    requires { i < length arrived.now }
-    ensures { (i < result.next) × (result.next ≤ length arrived.now) }
+// One call on what has arrived.
+fn take_turn<'a>(receiver: &mut Receiver<'_>, arrived: &[u8], area: &'a mut [u8; 255]) -> Turn<'a>
+    requires { 0 < length arrived.now }
+    ensures { (0 < result.taken) × (result.taken ≤ length arrived.now) }
 {
     // Room for any slice, so that no call is refused.
-    let Ok(got) = receiver.receive(&arrived[i..], area) else {
+    let Ok(got) = receiver.receive(arrived, area) else {
         unreachable!()
     };
     Turn {
-        next: i + got.taken,
+        taken: got.taken,
         slice: got.slice.map(|length| front(area, length)),
     }
 }
@@ -42,11 +37,11 @@ fn each_slice<F: FnMut(&[u8])>(receiver: &mut Receiver<'_>, arrived: &[u8], mut 
     requires { F.IsAlwaysCallable found }
 {
     let mut area = [0u8; 255];
-    let mut i = 0;
+    let mut rest = arrived;
     // A `while`: each step takes as many bytes as its slice has.
-    while i < arrived.len() {
-        let turn = take_turn(receiver, arrived, i, &mut area);
-        i = turn.next;
+    while !rest.is_empty() {
+        let turn = take_turn(receiver, rest, &mut area);
+        rest = &rest[turn.taken..];
         if let Some(slice) = turn.slice {
             found(slice);
         }

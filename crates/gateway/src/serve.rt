@@ -62,7 +62,8 @@ pub fn has_room(programs: &[u8], reply: &[u8]) -> bool
     programs.len() == SIZE
 }
 
-// Writes the reply to a request that was performed.
+// Writes the reply to a request that was performed. Here as in every function below, the room for a reply is a clause: of a type
+// that held it, each would have to promise that it is still the caller's area.
 #[tactic(auto, using(frame::proofs::Writing::opening_length, text::proofs::Digits::shortest_short, replies::proofs::Texts::performed_length))]
 fn put_reply(reply: &mut [u8], station: u8, outcome: Outcome) -> usize
     requires { 64 ≤ length reply.old }
@@ -73,8 +74,7 @@ fn put_reply(reply: &mut [u8], station: u8, outcome: Outcome) -> usize
     close_frame(reply, end)
 }
 
-// Writes the reply to a refused request. Here as in every function below, the room for a reply is a clause: of a type that held it,
-// each would have to promise that it is still the caller's area.
+// Writes the reply to a refused request, by its number, which serving returns, too.
 #[tactic(auto, using(frame::proofs::Writing::opening_length, text::proofs::Digits::shortest_short, replies::proofs::Texts::refusal_length))]
 fn put_refused(reply: &mut [u8], station: u8, number: u8, store: bool) -> usize
     requires { 64 ≤ length reply.old }
@@ -186,7 +186,7 @@ pub struct Told {
     pub position: usize,
 }
 
-// The same, for its two callers, here and in the crate hosts. Having two, it is compiled apart from them: so the slice is taken
+// Serves a slice that passed check 1, for two callers, here and in the crate hosts. Having two, it is compiled apart from them: so the slice is taken
 // anew, and the length told apart, which keeps both from being copied through memory on the way (docs/SPEED.md).
 pub fn serve_told(
     arms: &mut Arms<'_>,

@@ -1,5 +1,5 @@
 // The four entries: a request read and written, a reply written and read. None has a `requires`. A refused
-// reader hands back its number and position alone; a refused writer reports length 0 and leaves the area untouched.
+// reader hands back its refusal and position alone; a refused writer leaves the area untouched.
 ghost use Rattle.std.specs.Prelude.{◌≡◌, length};
 ghost use Rattle.refusals.specs.Refusal.{number_of, refusal_number};
 ghost use Rattle.harl.specs.Message.{judge_station, judge_asked, asked_values, read_request, write_request, write_reply, unsent, sent_by, Wrote, answered_values, read_reply};
@@ -32,7 +32,7 @@ pub struct Sent {
     pub position: usize,
 }
 
-// A refusal without a reply, by any number.
+// A refusal without a reply, by any number: a `Refusal` would ask more of callers.
 pub fn refusal(number: u8, position: usize) -> Sent
     ensures { result ≡ unsent number position }
 {

@@ -78,7 +78,8 @@ fn fail(rt: &HostRuntime, what: &str, error: Error) {
     if eprintln!(rt; "line: {what}: {error}").is_err() {}
 }
 
-// Reads what has arrived, and returns how many bytes: none at the input's end, and where reading fails.
+// Reads what has arrived, and returns how many bytes: none at the input's end, and where reading fails. An Option is no plainer:
+// no more comes in either case.
 fn read_block(rt: &HostRuntime, input: &mut [u8]) -> usize
     ensures { IsPrefixLen result input.new }
 {

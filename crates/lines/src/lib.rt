@@ -5,6 +5,6 @@
 // definition of specs/; that what is written reads back as itself is proved in proofs/.
 #![tactic(auto)]
 
-pub mod collect; // collect.rt: a line taken byte by byte
+pub mod collect; // collect.rt: a line taken in parts
 pub mod reader; // reader.rt: a line read as a slice
 pub mod writer; // writer.rt: the line of an answer

@@ -71,7 +71,7 @@ pub fn serve_arrived(
 {
     let mut i = 0;
     let mut at = 0;
-    // A `while`: each step takes as many bytes as its slice has.
+    // A `while`: each step takes as many bytes as its slice has. By an index, since the invariant says what the bytes before it did.
     while i < arrived.len() {
         let part = serve_next(arms, programs, stations, receiver, &arrived[i..], out, at);
         i += part.taken;

@@ -18,6 +18,7 @@ pub fn read_numbers(kind: Kind, from: At<'_>) -> Result<Row, Malformed>
     let text = from.text;
     let mut values = [0; 4];
     let mut next = from.index;
+    // By its index: of what is written through `iter_mut`, no element is known.
     for i in 0..count_of(kind) {
         if text.len() < next {
             return Err(Malformed {

@@ -15,7 +15,7 @@ pub fn show<D: Display + Drop>(rt: &impl Print, value: D) {
     if rt.print(value).is_err() {}
 }
 
-// A byte by its two hexadecimal digits; not by `{:02X}`, since edits of must-fail/ ask for a digit that there is none of.
+// A byte by its two hexadecimal digits; not by `{:02X}`, since edits of must-fail/ need the clause of `capital_of`.
 #[derive(Clone, Copy)]
 struct Byte(u8);
 
@@ -90,7 +90,8 @@ impl Display for Untouched<'_> {
     }
 }
 
-// What a call answered: its number, the bytes that it wrote or what is said of none, and what it left of the area.
+// What a call answered: its number, the bytes that it wrote or what is said of none, and what it left of the area. By numbers,
+// as `Sent` has them: serving may return both a refusal and a reply.
 #[derive(Clone, Copy)]
 pub struct Written<'a> {
     pub number: u8,

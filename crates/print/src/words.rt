@@ -16,7 +16,7 @@ pub fn word(line: &[u8], k: usize) -> &[u8] {
     part(line, b' ', k)
 }
 
-// Word k of a line as a number; 0 where it is none.
+// Word k of a line as a number; 0 where it is none, as the scripts have it.
 pub fn number(line: &[u8], k: usize) -> u16 {
     read_whole(At::front(word(line, k))).map_or(0, |field| field.value)
 }

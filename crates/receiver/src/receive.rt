@@ -8,7 +8,7 @@ use frame::{ETX, STX};
 use refusals::refusal::Refusal;
 use text::put::{Cursor, put_bytes};
 
-// The state that the caller keeps: the bytes held of a frame that is not finished, and how many they are.
+// The state that the caller keeps, as C lends it: the bytes held of a frame that is not finished, and how many they are.
 #[derive(Drop)]
 pub struct Receiver<'a> {
     pub held: &'a mut [u8; 255],
@@ -77,7 +77,7 @@ fn at_end(held: &[u8; 255], n: usize) -> bool
     n != 0 && held[n - 1] == ETX
 }
 
-// Takes one byte, with n bytes held.
+// Takes one byte, with n bytes held: not the count that is kept, which is written once, when all is taken.
 #[tactic(auto, using(crate::proofs::Steps::steps))]
 fn take_byte(held: &mut [u8; 255], n: usize, b: u8) -> Step
     requires { n < 255 }

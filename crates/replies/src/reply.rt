@@ -97,7 +97,8 @@ pub fn put_status(area: &mut [u8], to: Cursor, store: bool, n: u8) -> Cursor
     put_two_digits(area, digits, n as u16)
 }
 
-// Writes what answers a refusal by its number: of a name that is no command's, or of an LN or SN name.
+// Writes what answers a refusal by its number: of a name that is no command's, or of an LN or SN name. Any number has its text
+// (`refusal_text`): a `Refusal` would ask more of callers.
 #[tactic(auto, using(crate::proofs::Texts::status_length))]
 pub fn put_refusal(area: &mut [u8], to: Cursor, n: u8, store: bool) -> Cursor
     requires { to.at + 3 ≤ length area.old }

@@ -16,6 +16,7 @@ use tables::arms::Arms;
 fn is_repeating(want: [u16; 4]) -> bool
     ensures { result ≡ repeats want }
 {
+    // By its index: each station is compared with those behind it.
     for i in 0..4 {
         let s = want[i];
         if s != 0 && want[i + 1..].contains(&s) {

@@ -55,6 +55,7 @@ pub fn read_step(from: At<'_>) -> Result<Step, Malformed>
     let text = from.text;
     let mut texts: [u64; 5] = [0; 5];
     let mut next = from.index;
+    // By its index: of what is written through `iter_mut`, no element is known.
     for i in 0..5 {
         if text.len() < next {
             return Ok(Step::from(texts));

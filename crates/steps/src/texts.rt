@@ -62,7 +62,8 @@ pub fn read_text(from: At<'_>) -> TextField
     }
 }
 
-// Whether t is a text: the characters of t are all that it holds, and there is one.
+// Whether t is a text: the characters of t are all that it holds, and there is one. By the lowest byte of what is left, as
+// `only_chars` goes; over `to_le_bytes` the characters' end would be looked for first, and then the zeros behind it.
 #[tactic(auto, using(crate::proofs::Laws::only_zero, crate::proofs::Laws::only_stop, crate::proofs::Laws::only_more), unfolding(crate::specs::Text::is_text))]
 pub fn is_text(t: Text) -> bool
     ensures { result ≡ is_text t.0 }

@@ -4,10 +4,6 @@ use borrow.Author.Rules.{rules}
 use Rattle.receiver.proofs.Got.{got_is}
 use Rattle.cuts.proofs.take_turn.Goals as goal
 
-pub overflow_add-result : goal.overflow_add-result
-overflow_add-result c =
-    let g = got_is _ _ _ _ (search rules) c.in-Ok.ensures.received in omega (arith, g.within, g.some (search rules))
-
 pub returns : goal.returns
 returns c =
     let g = got_is _ _ _ _ (search rules) c.in-Ok.ensures.received in omega (arith, g.within, g.some (search rules))
