@@ -10,6 +10,7 @@ ghost use Rattle.cell.specs.Block.{BlockTaken};
 
 use crate::ready::Ready;
 use lines::collect::front;
+use owned::tables::Tables;
 use slots::setup::setup;
 use std::io::Read;
 use stream::buffers::Buffers;
@@ -95,31 +96,11 @@ fn answer_all(rt: &HostRuntime, arms: &mut Arms<'_>, programs: &mut [u8], statio
 
 // Sets up stations 1 to 4, and answers.
 fn main(rt: HostRuntime) {
-    let mut timers = [[0u16; 16]; 4];
-    let mut registers = [[0u16; 64]; 4];
-    let mut x = [[0i32; 100]; 4];
-    let mut y = [[0i32; 100]; 4];
-    let mut z = [[0i32; 100]; 4];
-    let mut w = [[0i32; 100]; 4];
-    let mut inputs = [[0u8; 32]; 4];
-    let mut outputs = [[0u8; 32]; 4];
-    let mut memory = [[0u8; 16]; 4];
-    let mut on = [0u16; 4];
+    let mut tables = Tables::filled(0);
+    let mut arms = tables.arms();
     let mut programs = [0u8; 40960];
     let mut stations = [0u8; 4];
     let mut turn = 0;
-    let mut arms = Arms {
-        timers: &mut timers,
-        registers: &mut registers,
-        x: &mut x,
-        y: &mut y,
-        z: &mut z,
-        w: &mut w,
-        inputs: &mut inputs,
-        outputs: &mut outputs,
-        memory: &mut memory,
-        on: &mut on,
-    };
     let set_up = setup(
         &mut arms,
         &mut programs,

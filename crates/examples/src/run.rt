@@ -2,8 +2,8 @@
 // what it asks for.
 use crate::{frames, numerals};
 use examples_gateway::calls::call;
-use examples_gateway::snapshot::Tables;
 use examples_harl::{answers, requests};
+use owned::tables::Tables;
 use print::words::count;
 use print::{Text, show};
 

@@ -3,7 +3,6 @@
 #![tactic(auto)]
 
 mod script; // script.rt: what a line of the script asks for
-pub mod snapshot; // snapshot.rt: the tables, lent to calls and compared
 mod memory; // memory.rt: the memory of START programs shown, written and compared
 mod ranges; // ranges.rt: a row of the table of ranges
 pub mod calls; // calls.rt: one call of each kind

@@ -8,6 +8,7 @@
 ghost use Rattle.io.specs.Counts.{IsPrefixLen};
 
 use link::arrived::serve_arrived;
+use owned::tables::Tables;
 use receiver::receive::Receiver;
 use slots::setup::setup;
 use std::env::{Env, FillError};
@@ -144,18 +145,8 @@ fn main(rt: HostRuntime) {
     let Some(want) = read_stations(&rt) else {
         return;
     };
-    let mut arms = Arms {
-        timers: &mut [[0; 16]; 4],
-        registers: &mut [[0; 64]; 4],
-        x: &mut [[0; 100]; 4],
-        y: &mut [[0; 100]; 4],
-        z: &mut [[0; 100]; 4],
-        w: &mut [[0; 100]; 4],
-        inputs: &mut [[0; 32]; 4],
-        outputs: &mut [[0; 32]; 4],
-        memory: &mut [[0; 16]; 4],
-        on: &mut [0; 4],
-    };
+    let mut tables = Tables::filled(0);
+    let mut arms = tables.arms();
     let mut programs = [0u8; 40960];
     let mut stations = [0u8; 4];
     let mut turn = 0;

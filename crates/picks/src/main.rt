@@ -13,6 +13,7 @@ use chooser::choose::{Buffer, Port, choose};
 use commands::request;
 use hosts::next::serve_next;
 use lines::reader::read_line;
+use owned::tables::Tables;
 use print::input::STDIN_FILENO;
 use print::words::{byte, count, number, stations, word};
 use print::{Bytes, Number, Written, front, show};
@@ -155,18 +156,8 @@ fn main(rt: HostRuntime) {
     let mut buffer = [0u8; 131072];
     let got = io::read_full(STDIN_FILENO, &mut buffer);
     let lines = front(&buffer, got);
-    let mut arms = Arms {
-        timers: &mut [[0; 16]; 4],
-        registers: &mut [[0; 64]; 4],
-        x: &mut [[0; 100]; 4],
-        y: &mut [[0; 100]; 4],
-        z: &mut [[0; 100]; 4],
-        w: &mut [[0; 100]; 4],
-        inputs: &mut [[0; 32]; 4],
-        outputs: &mut [[0; 32]; 4],
-        memory: &mut [[0; 16]; 4],
-        on: &mut [0; 4],
-    };
+    let mut tables = Tables::filled(0);
+    let mut arms = tables.arms();
     let mut programs = [0u8; 40960];
     let mut fitted = [0u8; 4];
     let mut turn = 0;

@@ -5,6 +5,7 @@
 use gateway::serve::serve;
 use lines::reader::read_line;
 use lines::writer::put_answer;
+use owned::tables::Tables;
 use print::input::each_line;
 use print::{Text, front, show};
 use slots::setup::setup;
@@ -35,18 +36,8 @@ fn answer_line(
 
 // Sets up stations 1 to 4, and answers every line of standard input. A line over 512 digits is no call, whatever follows.
 fn main(rt: HostRuntime) {
-    let mut arms = Arms {
-        timers: &mut [[0; 16]; 4],
-        registers: &mut [[0; 64]; 4],
-        x: &mut [[0; 100]; 4],
-        y: &mut [[0; 100]; 4],
-        z: &mut [[0; 100]; 4],
-        w: &mut [[0; 100]; 4],
-        inputs: &mut [[0; 32]; 4],
-        outputs: &mut [[0; 32]; 4],
-        memory: &mut [[0; 16]; 4],
-        on: &mut [0; 4],
-    };
+    let mut tables = Tables::filled(0);
+    let mut arms = tables.arms();
     let mut programs = [0u8; 40960];
     let mut stations = [0u8; 4];
     let mut turn = 0;

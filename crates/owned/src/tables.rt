@@ -1,23 +1,30 @@
-// The tables of a box, which are lent to each call, and by which two states of the box are compared.
+// The tables of four arms, owned.
+ghost use Rattle.std.specs.Prelude.{ℕ, ◌≡◌, List};
+ghost use Rattle.tables.specs.Arms.{tables_of};
+ghost use Rattle.owned.specs.Owned.{filled, owned};
+
 use tables::arms::Arms;
 
+// One table for each kind, and for each field of a row, as `Arms` has them.
 #[derive(Clone, Copy, PartialEq, Eq)]
 pub struct Tables {
-    timers: [[u16; 16]; 4],
-    registers: [[u16; 64]; 4],
-    x: [[i32; 100]; 4],
-    y: [[i32; 100]; 4],
-    z: [[i32; 100]; 4],
-    w: [[i32; 100]; 4],
-    inputs: [[u8; 32]; 4],
-    outputs: [[u8; 32]; 4],
-    memory: [[u8; 16]; 4],
-    on: [u16; 4],
+    pub timers: [[u16; 16]; 4],
+    pub registers: [[u16; 64]; 4],
+    pub x: [[i32; 100]; 4],
+    pub y: [[i32; 100]; 4],
+    pub z: [[i32; 100]; 4],
+    pub w: [[i32; 100]; 4],
+    pub inputs: [[u8; 32]; 4],
+    pub outputs: [[u8; 32]; 4],
+    pub memory: [[u8; 16]; 4],
+    pub on: [u16; 4],
 }
 
 impl Tables {
     // Tables of which every entry is n.
-    pub fn filled(n: u8) -> Tables {
+    pub fn filled(n: u8) -> Tables
+        ensures { (m : List ℕ) → owned result m ≡ filled n m }
+    {
         let (word, value) = (u16::from(n), i32::from(n));
         Tables {
             timers: [[word; 16]; 4],
@@ -34,7 +41,9 @@ impl Tables {
     }
 
     // Lends the tables.
-    pub fn arms(&mut self) -> Arms<'_> {
+    pub fn arms(&mut self) -> Arms<'_>
+        ensures { (m : List ℕ) → tables_of result m ≡ owned self.old m }
+    {
         Arms {
             timers: &mut self.timers,
             registers: &mut self.registers,
