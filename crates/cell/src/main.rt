@@ -10,7 +10,7 @@ ghost use Rattle.cell.specs.Block.{BlockTaken};
 
 use crate::ready::Ready;
 use lines::collect::front;
-use owned::tables::Tables;
+use owned::arrays::Tables;
 use slots::setup::setup;
 use std::io::Read;
 use stream::buffers::Buffers;

@@ -8,7 +8,7 @@ mod numerals; // numerals.rt: numbers read and written
 mod run; // run.rt: the script run line by line
 
 use crate::run::run;
-use owned::tables::Tables;
+use owned::arrays::Tables;
 
 // p are the START programs, s the stations.
 fn main(rt: HostRuntime) {

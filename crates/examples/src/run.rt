@@ -3,7 +3,7 @@
 use crate::{frames, numerals};
 use examples_gateway::calls::call;
 use examples_harl::{answers, requests};
-use owned::tables::Tables;
+use owned::arrays::Tables;
 use print::words::count;
 use print::{Text, show};
 

@@ -5,7 +5,7 @@ use crate::memory::{FILL, Lent, Memory, write_bytes};
 use crate::ranges::try_row;
 use crate::script::{Step, step_of};
 use gateway::serve::serve;
-use owned::tables::Tables;
+use owned::arrays::Tables;
 use print::words::word;
 use print::{Number, Slice, Text, Written, show};
 use slots::count::outputs_on;

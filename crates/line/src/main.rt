@@ -8,7 +8,7 @@
 ghost use Rattle.io.specs.Counts.{IsPrefixLen};
 
 use link::arrived::serve_arrived;
-use owned::tables::Tables;
+use owned::arrays::Tables;
 use receiver::receive::Receiver;
 use slots::setup::setup;
 use std::env::{Env, FillError};

@@ -2,7 +2,7 @@
 use Rattle.std.specs.Prelude.{ℕ, List, replicate, pos}
 use Rattle.tables.specs.Tables.{tables}
 use Rattle.tables.specs.Tables as held
-use Rattle.owned.specs.declared.tables.Tables.{Tables}
+use Rattle.owned.specs.declared.arrays.Tables.{Tables}
 
 -- what the tables hold, with the memory of the START programs
 abbrev pub owned : Tables → List ℕ → held.Tables

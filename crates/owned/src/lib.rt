@@ -1,4 +1,4 @@
 // The tables of a box as a program owns them, which keeps them itself and lends them to each call.
 #![tactic(auto)]
 
-pub mod tables; // tables.rt: the tables, filled and lent
+pub mod arrays; // arrays.rt: the tables, filled and lent

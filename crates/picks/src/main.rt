@@ -13,7 +13,7 @@ use chooser::choose::{Buffer, Port, choose};
 use commands::request;
 use hosts::next::serve_next;
 use lines::reader::read_line;
-use owned::tables::Tables;
+use owned::arrays::Tables;
 use print::input::STDIN_FILENO;
 use print::words::{byte, count, number, stations, word};
 use print::{Bytes, Number, Written, front, show};

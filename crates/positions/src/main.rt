@@ -5,7 +5,7 @@
 use gateway::serve::serve;
 use lines::reader::read_line;
 use lines::writer::put_answer;
-use owned::tables::Tables;
+use owned::arrays::Tables;
 use print::input::each_line;
 use print::{Text, front, show};
 use slots::setup::setup;
