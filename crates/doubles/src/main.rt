@@ -8,7 +8,7 @@ use lines::reader::read_line;
 use print::input::each_line;
 use print::texts::Texts;
 use print::words::{count, word};
-use print::{Place, front, show};
+use print::{Place, front, show, show_bytes};
 use readings::convert::{Converted, Reading};
 use readings::reply::read_converted;
 use std::fmt;
@@ -83,15 +83,15 @@ fn answer_line(rt: &impl Print, line: &[u8]) {
     let mut request = [0u8; 256];
     let mut reply = [0u8; 256];
     if count(line, b' ') != 1 {
-        show(rt, "--\n");
+        show_bytes(rt, b"--\n");
         return;
     }
     let Some(m) = read_line(word(line, 0), &mut request) else {
-        show(rt, "--\n");
+        show_bytes(rt, b"--\n");
         return;
     };
     let Some(n) = read_line(word(line, 1), &mut reply) else {
-        show(rt, "--\n");
+        show_bytes(rt, b"--\n");
         return;
     };
     answer_pair(rt, front(&request, m), front(&reply, n));

@@ -29,10 +29,10 @@ fn read(rt: &impl Print, line: &[u8]) {
         b'W' => numerals::read_as_whole(rt, rest),
         b'Q' => requests::read(rt, rest),
         b'P' => answers::read(rt, letter, from(line, 2)),
-        b'T' => requests::write::<64>(rt, letter),
-        b't' => requests::write::<63>(rt, letter),
-        b'Y' => answers::write::<64>(rt, letter),
-        b'y' => answers::write::<63>(rt, letter),
+        b'T' => requests::write_typed(rt, letter),
+        b't' => requests::write_narrow(rt, letter),
+        b'Y' => answers::write_typed(rt, letter),
+        b'y' => answers::write_narrow(rt, letter),
         _ => show(rt, format_args!("{}\n", Text(line))),
     }
 }

@@ -91,7 +91,9 @@ fn first_letter(row: &[u8]) -> u8 {
 }
 
 // How many data the row says.
-fn count_of(row: &[u8]) -> usize {
+fn count_of(row: &[u8]) -> usize
+    ensures { result ≤ 4 }
+{
     match row.first() {
         Some(b'1') => 1,
         Some(b'4') => 4,

@@ -1,6 +1,6 @@
 // A line of the script as the step that it asks for.
 use commands::request::Port;
-use print::words::{byte, number, part, stations, word};
+use print::words::{number, part, stations, word};
 
 // What a line asks for. Stations are those that setup is given.
 #[derive(Clone, Copy)]
@@ -30,7 +30,7 @@ pub enum Step<'a> {
 }
 
 // A size that word 1 of a line says: that of the START programs, one byte less, one more, or none.
-fn size(line: &[u8]) -> u16 {
+pub fn size(line: &[u8]) -> u16 {
     match word(line, 1) {
         b"40959" => 40959,
         b"40960" => 40960,
@@ -40,12 +40,12 @@ fn size(line: &[u8]) -> u16 {
 }
 
 // What stands behind the first "=".
-fn told(line: &[u8]) -> &[u8] {
+pub fn told(line: &[u8]) -> &[u8] {
     part(line, b'=', 1)
 }
 
 // The line from its second byte on.
-fn rest(line: &[u8]) -> &[u8] {
+pub fn rest(line: &[u8]) -> &[u8] {
     match line.split_first() {
         Some((_, rest)) => rest,
         None => line,
@@ -63,6 +63,11 @@ fn lent(line: &[u8]) -> Step<'_> {
 // Where a text of a step of a slot's program stands, as a line of bytes says.
 fn place(line: &[u8]) -> usize {
     number(line, 2) as usize * 10240 + number(line, 4) as usize * 40 + number(line, 6) as usize * 8
+}
+
+// Word k of a line as a byte: the lowest of its number.
+pub fn byte(line: &[u8], k: usize) -> u8 {
+    (number(line, k) % 256) as u8
 }
 
 // A line that begins with "input".

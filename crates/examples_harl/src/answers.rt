@@ -121,3 +121,13 @@ pub fn write<const N: usize>(rt: &impl Print, letter: u8)
         read(rt, request, front(&area, length));
     }
 }
+
+// Writes the reply of a letter into an area of 64 bytes.
+pub fn write_typed(rt: &impl Print, letter: u8) {
+    write::<64>(rt, letter);
+}
+
+// Writes it into an area of 63 bytes, which is refused before anything else is.
+pub fn write_narrow(rt: &impl Print, letter: u8) {
+    write::<63>(rt, letter);
+}

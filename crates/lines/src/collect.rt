@@ -11,10 +11,10 @@ pub fn front(s: &[u8], n: usize) -> &[u8]
     &s[..n]
 }
 
-// Adds the bytes of s to the n bytes held; `Buffers` of crates/stream, which keeps both, is above this crate. No more than 513 are kept: a line over 512 digits is no call,
+// Adds the bytes of s to the n bytes held. No more than 513 are kept: a line over 512 digits is no call,
 // whatever follows.
-pub fn take_bytes(held: &mut [u8; 513], n: usize, s: &[u8]) -> usize
-    requires { n ≤ 513 }
+pub fn take_bytes(held: &mut [u8], n: usize, s: &[u8]) -> usize
+    requires { (length held.old ≡ 513) × (n ≤ 513) }
     ensures { (take result held.new ≡ take 513 (take n held.old ++ s.now)) × (result ≤ 513) }
 {
     let room = 513 - n;

@@ -7,7 +7,7 @@ use lines::reader::read_line;
 use lines::writer::put_answer;
 use owned::arrays::Tables;
 use print::input::each_line;
-use print::{Text, front, show};
+use print::{Text, front, show, show_bytes};
 use slots::setup::setup;
 use tables::arms::Arms;
 
@@ -22,7 +22,7 @@ fn answer_line(
 ) {
     let mut slice = [0u8; 256];
     let Some(n) = read_line(line, &mut slice) else {
-        show(rt, "--\n");
+        show_bytes(rt, b"--\n");
         return;
     };
     let mut reply = [0u8; 64];

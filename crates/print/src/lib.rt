@@ -15,6 +15,11 @@ pub fn show<D: Display + Drop>(rt: &impl Print, value: D) {
     if rt.print(value).is_err() {}
 }
 
+// Prints bytes as they stand. They are not formatted, so that a line without a number is no dearer than its write.
+pub fn show_bytes(rt: &impl Print, bytes: &[u8]) {
+    if rt.write_all(bytes).is_err() {}
+}
+
 // A byte by its two hexadecimal digits; not by `{:02X}`, since edits of must-fail/ need the clause of `capital_of`.
 #[derive(Clone, Copy)]
 struct Byte(u8);

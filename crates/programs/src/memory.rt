@@ -77,6 +77,26 @@ fn ended(texts: Step) -> Step
     step
 }
 
+// What stands at step n of slot's program, in a memory that is lent to be read; None where it was never written.
+#[tactic(auto, using(crate::proofs::Typed::load_empty, crate::proofs::Typed::load_found))]
+pub fn load_step(programs: &[u8], slot: Slot, n: u8) -> Option<Step>
+    requires { length programs.now ≡ size }
+    ensures { result ≡ found (step_at programs.now slot.index n) }
+{
+    let at = place_of(slot, n);
+    let command = text_at(programs, at);
+    if command.0 == 0 {
+        return None;
+    }
+    Some(ended(Step {
+        command,
+        first: text_at(programs, at + 8),
+        second: text_at(programs, at + 16),
+        third: text_at(programs, at + 24),
+        fourth: text_at(programs, at + 32),
+    }))
+}
+
 impl Programs<'_> {
     // Replaces step n of slot's program: all 40 bytes are written, zeros after each text.
     pub fn store(&mut self, slot: Slot, n: u8, step: Step)
@@ -96,22 +116,10 @@ impl Programs<'_> {
     }
 
     // What stands at step n of slot's program; None where it was never written.
-    #[tactic(auto, using(crate::proofs::Typed::load_empty, crate::proofs::Typed::load_found))]
     pub fn load(&self, slot: Slot, n: u8) -> Option<Step>
         ensures { result ≡ found (step_at self.now.bytes.now slot.index n) }
     {
-        let at = place_of(slot, n);
-        let command = text_at(self.bytes, at);
-        if command.0 == 0 {
-            return None;
-        }
-        Some(ended(Step {
-            command,
-            first: text_at(self.bytes, at + 8),
-            second: text_at(self.bytes, at + 16),
-            third: text_at(self.bytes, at + 24),
-            fourth: text_at(self.bytes, at + 32),
-        }))
+        load_step(self.bytes, slot, n)
     }
 }
 

@@ -91,7 +91,7 @@ fn take_byte(held: &mut [u8; 255], n: usize, b: u8) -> Step
         held[0] = STX;
         return Step::Held(1);
     }
-    if n == 0 || n == 254 {
+    if n == 0 || 254 <= n {
         return Step::Held(0);
     }
     held[n] = b;

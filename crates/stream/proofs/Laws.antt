@@ -9,7 +9,7 @@ use native.Mathlib.Numerals.{add-one}
 use native.Mathlib.Omega.{arith}
 use borrow.Author.Tests.{eq-eqb, ne_eqb, eqb-true}
 use lib.ListN.{length, get_or, take, drop, length-drop}
-use lib.Seq.{take_all, take-add, take-suc, length-take-le}
+use lib.Seq.{length-sets, take_all, take-add, take-suc, length-take-le}
 use lib.Dec.{eqb}
 use Rattle.text.specs.Scan.{until, before}
 use Rattle.text.proofs.Laws.{rest}
@@ -20,8 +20,8 @@ use Rattle.model.specs.Box.{Box, box, after, perform}
 use Rattle.lines.specs.Lines.{is_call, slice_of}
 use Rattle.lines.proofs.Laws.{put_behind}
 use Rattle.answers.specs.Answers.{line_call, box_after, LineAnswered}
-use Rattle.stream.specs.declared.buffers.Buffers.{Buffers}
-use Rattle.stream.specs.Cell.{Cell, ended, extended, taken, taken_all, finished, cell_of, Took}
+use Rattle.stream.specs.declared.input.Progress.{Progress}
+use Rattle.stream.specs.Cell.{Cell, ended, extended, taken, taken_all, finished, cell_at, Within, Took}
 
 -- ---- a line that has ended
 
@@ -35,11 +35,20 @@ pub box_is : (b : Box) (line : List ℕ) {t : Tables} → t ≡ (box_after b lin
 unfolding box_after
 box_is b line e = rw e (left b (slice_of line) (is_call line))
 
--- r bytes of output wait
-pub line_ended : {st line out' : List ℕ} {t t' : Tables} {r : ℕ} (b : Buffers) → length b.output ≡ 65536 → b.waiting + 132 ≤ 65536 → line ≡ take b.held b.line → LineAnswered (box st t) line b.output b.waiting r out' t' → record { box = box st t'; line = []; output = take r out' } ≡ ended (cell_of st t b)
-unfolding ended
-line_ended {st} {line} {t = t} b l h e a =
-    rw (← e, box_is (box st t) line a.tables_are, put_behind a.answer_is (omega (arith, a.short, l)))
+module _ {held out : List ℕ} {p : Progress} (w : Within held out p) where
+  pub line_ended : {st line out' : List ℕ} {t t' : Tables} {r : ℕ} → p.waiting + 132 ≤ 65536 → line ≡ take p.held held → LineAnswered (box st t) line out p.waiting r out' t' → cell_at st t' held out' (record { held = 0; waiting = r }) ≡ ended (cell_at st t held out p)
+  unfolding ended
+  line_ended {st} {line} {t = t} h e a =
+      rw (← e, box_is (box st t) line a.tables_are, put_behind a.answer_is (omega (arith, a.short, w.out_size)))
+
+  pub ended_within : {b : Box} {line out' : List ℕ} {t' : Tables} {r : ℕ} → p.waiting + 132 ≤ 65536 → LineAnswered b line out p.waiting r out' t' → Within held out' (record { held = 0; waiting = r })
+  ended_within h a =
+      record {
+        held_size = w.held_size;
+        out_size = rw (a.answer_is.area, length-sets) w.out_size;
+        held_fits = omega arith;
+        waiting_fits = omega (arith, a.short);
+      }
 
 -- ---- the lent tables: the same ones
 
@@ -143,17 +152,18 @@ extended_all (b ∷ s) c h l =
 
 -- ---- the input's end
 
-module _ (b : Buffers) (l : length b.line ≡ 513) where
-  held_count : length (take b.held b.line) ≡ b.held
-  held_count = length-take-le b.held b.line (omega (arith, l, b.held_fits))
+module _ {held out : List ℕ} {p : Progress} (w : Within held out p) where
+  -- as many bytes are held as the progress says
+  held_count : length (take p.held held) ≡ p.held
+  held_count = length-take-le p.held held (omega (arith, w.held_size, w.held_fits))
 
-  pub finished_empty : (st : List ℕ) (t : Tables) → b.held ≡ 0 → finished (cell_of st t b) ≡ cell_of st t b
+  pub finished_empty : (st : List ℕ) (t : Tables) → p.held ≡ 0 → finished (cell_at st t held out p) ≡ cell_at st t held out p
   unfolding finished
-  finished_empty st t e = rw (eq-eqb (length (take b.held b.line)) 0 (held_count ∙ e))
+  finished_empty st t e = rw (eq-eqb (length (take p.held held)) 0 (held_count ∙ e))
 
-  pub finished_more : (st : List ℕ) (t : Tables) → (b.held ≡ 0 → ⊥) → finished (cell_of st t b) ≡ ended (cell_of st t b)
+  pub finished_more : (st : List ℕ) (t : Tables) → (p.held ≡ 0 → ⊥) → finished (cell_at st t held out p) ≡ ended (cell_at st t held out p)
   unfolding finished
-  finished_more st t n = rw (ne_eqb (length (take b.held b.line)) 0 (λ e. n (sym held_count ∙ e)))
+  finished_more st t n = rw (ne_eqb (length (take p.held held)) 0 (λ e. n (sym held_count ∙ e)))
 
-  pub line_grown : {st line : List ℕ} {t : Tables} (s : List ℕ) → NoFeed s → line ≡ take 513 (take b.held b.line ++ s) → record { box = box st t; line = line; output = take b.waiting b.output } ≡ taken_all (cell_of st t b) s
-  line_grown {st} {line} {t} s h e = rw e (sym (extended_all s (cell_of st t b) h (omega (arith, held_count, b.held_fits))))
+  pub line_grown : {st line : List ℕ} {t : Tables} (s : List ℕ) → NoFeed s → line ≡ take 513 (take p.held held ++ s) → record { box = box st t; line = line; output = take p.waiting out } ≡ taken_all (cell_at st t held out p) s
+  line_grown {st} {line} {t} s h e = rw e (sym (extended_all s (cell_at st t held out p) h (omega (arith, held_count, w.held_fits))))

@@ -4,6 +4,7 @@ use Rattle.tables.specs.Tables.{Tables}
 use Rattle.model.specs.Box.{Box, box}
 use Rattle.answers.specs.Answers.{line_answer, box_after}
 use Rattle.stream.specs.declared.buffers.Buffers.{Buffers}
+use Rattle.stream.specs.declared.input.Progress.{Progress}
 
 -- the box, what is held of the line that has not ended, the answers that wait to be written
 pub record Cell : Type 0 where
@@ -42,6 +43,18 @@ abbrev pub preceded : List ℕ → Cell → Cell
 preceded w c = record { box = c.box; line = c.line; output = w ++ c.output }
 
 -- ---- the state in memory
+
+-- the state that stations, tables, and a lent line and output are
+abbrev pub cell_at : List ℕ → Tables → List ℕ → List ℕ → Progress → Cell
+cell_at st t held out p =
+    record { box = box st t; line = take p.held held; output = take p.waiting out }
+
+-- the lent bytes are as many as the program has, and the progress is within them
+pub record Within (held out : List ℕ) (p : Progress) : Type 0 where
+  pub held_size : length held ≡ 513
+  pub out_size : length out ≡ 65536
+  pub held_fits : p.held ≤ 513
+  pub waiting_fits : p.waiting ≤ 65536
 
 -- the state that stations, tables, line and output are
 abbrev pub cell_of : List ℕ → Tables → Buffers → Cell

@@ -1,4 +1,4 @@
-// What the program keeps of its input and output, in fixed memory.
+// What the program keeps of its input and output, in fixed memory of its own.
 ghost use Rattle.std.specs.Prelude.{◌≡◌, ◌≤◌};
 
 // The line that has not ended, of which so many bytes are held, and the output, of which so many bytes wait to be written.

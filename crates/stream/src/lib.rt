@@ -5,5 +5,5 @@
 // definition of specs/; that the answers are those of the input's lines, however it is cut, is proved in proofs/.
 #![tactic(auto)]
 
-pub mod buffers; // buffers.rt: what is kept of input and output
+pub mod buffers; // buffers.rt: the line and the output as a program owns them
 pub mod input; // input.rt: a block of input taken, and the input's end
